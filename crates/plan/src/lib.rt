@@ -1,0 +1,22 @@
+// Plans: the plan value, the plan file, and the way between the two.
+//
+// check(p): would a plan held as a value be accepted? 2, 9 or 10 with its place, or 0.
+// read(file): the plan of a file, or a refusal 1 to 10 with its place, for any bytes.
+// write(p, buffer): the file of a plan, in lent bytes; 2, 9, 10 or 51, or the bytes written.
+// write_and_read(p, buffer): a plan written and read again; its contract is the round trip.
+mod chain;
+mod reading;
+mod records;
+mod roundtrip;
+mod value;
+mod writing;
+
+pub use reading::Reading;
+pub use reading::read;
+pub use roundtrip::write_and_read;
+pub use value::Domain;
+pub use value::Plan;
+pub use value::Refusal;
+pub use value::check;
+pub use writing::Writing;
+pub use writing::write;

@@ -1,0 +1,75 @@
+// Reading a plan file: the refusals 1 to 10 in table order, or the plan.
+use crate::chain;
+use crate::records;
+use crate::value;
+use crate::value::Plan;
+ghost use mathlib.Core.Path.{_≡_};
+ghost use Rattle.table.specs.Lines.{firstOf};
+ghost use Rattle.plan.specs.Reading.{noLength, headTable, refusedReading, readPlan};
+
+// What reading answers: the refusal and its place, or 0, 0 and the plan. A refusal's plan is all zeros.
+pub struct Reading {
+    pub refused: u8,
+    pub place: u16,
+    pub plan: Plan,
+}
+
+// Is it the length of no plan file?
+fn no_length(n: usize) -> bool
+    ensures { λ r. ⌜ r ≡ noLength n ⌝ }
+{
+    n == 0 || (n % 16 != 0 || 1024 < n)
+}
+
+// The refusal that the file's length or record 0 draws, 1 to 3, or 0.
+fn head_refusal(file: &[u8]) -> u8
+    ensures { λ r. ⌜ r ≡ firstOf (headTable (now (file .entry))) 0 ⌝ }
+{
+    if no_length(file.len()) {
+        return 1;
+    }
+    let period = records::u16_at(file, 0);
+    if value::no_period(period) {
+        return 2;
+    }
+    if records::all_zero(&file[4..16]) {
+        return 0;
+    }
+    3
+}
+
+// The answer of a refusal.
+pub(crate) fn refusal_at(number: u8, place: u16) -> Reading
+    ensures { λ r. ⌜ r ≡ refusedReading number place ⌝ }
+{
+    let plan = value::no_domains(0);
+    Reading {
+        refused: number,
+        place,
+        plan,
+    }
+}
+
+// The plan of a file, for any bytes.
+pub fn read(file: &[u8]) -> Reading
+    ensures { λ r. ⌜ r ≡ readPlan (now (file .entry)) ⌝ }
+{
+    let head = head_refusal(file);
+    if head != 0 {
+        return refusal_at(head, 0);
+    }
+    let w = chain::walk(file);
+    if w.refused != 0 {
+        return refusal_at(w.refused, w.place);
+    }
+    let plan = w.plan;
+    let q = plan.reservation;
+    if (plan.period as u32) < table::total(q) {
+        return refusal_at(10, 0);
+    }
+    Reading {
+        refused: 0,
+        place: 0,
+        plan,
+    }
+}

@@ -1,0 +1,4 @@
+pub mod Elements
+pub mod Flags
+pub mod Searches
+pub mod Tables

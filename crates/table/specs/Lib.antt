@@ -1,0 +1,4 @@
+pub mod Sums
+pub mod Members
+pub mod Ranges
+pub mod Lines
