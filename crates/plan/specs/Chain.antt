@@ -3,13 +3,13 @@
 use Prim.Native.Nat.{ℕ, zero, suc, _≤_}
 use mathlib.Core.Path.{_≡_}
 use mathlib.Core.List.{List, [], _∷_, _++_, map}
-use mathlib.Core.Bool.{Bool, true, false, cond, not, _||_}
+use mathlib.Core.Bool.{Bool, false, cond, not, _&&_, _||_}
 use lib.ListN.{length, getD}
 use lib.Dec.{eqb, ltb, leb}
 use Rattle.table.specs.Members.{has, lastOf}
 use Rattle.table.specs.Lines.{Line, firstOf}
 use Rattle.plan.specs.Value.{above, planOf}
-use Rattle.plan.specs.Records.{part, zeros, u16At, recordAt, recordCount, periodIn, firstIn, nextIn, domainIn, domainAt, numberAt}
+use Rattle.plan.specs.Records.{part, zeros, recordAt, recordCount, periodIn, firstIn, nextIn, domainIn, domainAt, numberAt}
 use Rattle.plan.specs.declared.value.Domain.{Domain}
 use Rattle.plan.specs.declared.chain.Walked.{Walked}
 
@@ -22,15 +22,15 @@ unfoldable pub noNumber : ℕ → Bool
 noNumber n = eqb n 0 || ltb 16 n
 
 -- 8: "byte 3 or 10 to 15 not zero"
-unfoldable pub unlisted : ℕ → Bool → Bool
-unlisted third rest = not (eqb third 0) || not rest
+unfoldable pub unlisted : List ℕ → Bool
+unlisted b = not (eqb (getD b 3 0) 0) || not (zeros (part b 10 6))
 
 -- "then that record": 6, 7 "domain number already met", 8, 9 "Q, R or W above P"
 abbrev pub recordTable : ℕ → Bool → List ℕ → List (Line ℕ)
 recordTable P met b =
     (noNumber (domainIn b .number), 6)
     ∷ (met, 7)
-    ∷ (unlisted (getD b 3 0) (zeros (part b 10 6)), 8)
+    ∷ (unlisted b, 8)
     ∷ (above P (domainIn b .reservation) (domainIn b .reclaimcap) (domainIn b .writebackcap), 9)
     ∷ []
 
@@ -55,7 +55,7 @@ fault s chain = cond (eqb (link s chain) 0) 0 (faultAt s chain (link s chain))
 
 -- the chain goes on after `chain`: its link is not 0, and following it is not refused
 unfoldable pub goesOn : List ℕ → List ℕ → Bool
-goesOn s chain = not (eqb (link s chain) 0 || not (eqb (fault s chain) 0))
+goesOn s chain = not (eqb (link s chain) 0) && eqb (fault s chain) 0
 
 -- The records taken after those of `chain`, which stand before them. The first argument bounds the steps; `WalkEnds`
 -- says that 64 are enough.

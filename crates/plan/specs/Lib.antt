@@ -1,3 +1,4 @@
+-- The definitions of plans and plan files, in the order in which document 01 gives them.
 pub mod Value
 pub mod Records
 pub mod Chain

@@ -1,16 +1,14 @@
 -- What reading a plan file answers (document 01, 'When a call is refused', numbers 1 to 10).
 -- Assumes nothing.
 use Prim.Native.Nat.{ℕ, _%_}
-use mathlib.Core.List.{List, [], _∷_, map}
-use mathlib.Core.Bool.{Bool, cond, not, _||_}
+use mathlib.Core.List.{List, [], _∷_}
+use mathlib.Core.Bool.{Bool, not, _||_}
 use lib.ListN.{length}
 use lib.Dec.{eqb, ltb}
-use Rattle.table.specs.Sums.{sum}
 use Rattle.table.specs.Lines.{Line, firstOf}
-use Rattle.plan.specs.Value.{noPeriod, noDomains, planOf}
+use Rattle.plan.specs.Value.{noPeriod, noDomains, planOf, reservedOf}
 use Rattle.plan.specs.Records.{part, zeros, periodIn}
 use Rattle.plan.specs.Chain.{link, fault, chainOf, domainsIn}
-use Rattle.plan.specs.declared.value.Domain.{Domain}
 use Rattle.plan.specs.declared.value.Plan.{Plan}
 use Rattle.plan.specs.declared.reading.Reading.{Reading}
 
@@ -28,10 +26,6 @@ refusedReading n place = record { refused = n; place = place; plan = noDomains 0
 
 abbrev pub acceptedReading : Plan → Reading
 acceptedReading p = record { refused = 0; place = 0; plan = p }
-
--- 10: the "sum of Q" over a list of domains
-abbrev pub reservedOf : List Domain → ℕ
-reservedOf ds = sum (map (λ (d : Domain). d .reservation) ds)
 
 -- Reading: 1 to 3 at place 0, 4 to 9 at the index followed, "end of chain" 10 at place 0, or the plan.
 unfoldable pub readPlan : List ℕ → Reading

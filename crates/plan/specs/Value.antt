@@ -2,7 +2,7 @@
 -- Assumes nothing.
 use Prim.Native.Nat.{ℕ, zero, suc, _+_, _-_}
 use mathlib.Core.Path.{_≡_}
-use mathlib.Core.List.{List, [], _∷_, _++_}
+use mathlib.Core.List.{List, [], _∷_, _++_, map}
 use mathlib.Core.Bool.{Bool, true, false, cond, _||_}
 use lib.ListN.{length, getD, set, replicate}
 use lib.Dec.{eqb, ltb}
@@ -85,7 +85,11 @@ mostOf p j = cond (getD (p .planned) j false) (p .period) 0
 unfoldable pub outOfRange : Plan → ℕ → Bool
 outOfRange p j = above (mostOf p j) (getD (p .reservation) j 0) (getD (p .reclaimcap) j 0) (getD (p .writebackcap) j 0)
 
--- 10: the "sum of Q". After 9 an absent domain has Q 0, so it is the sum of all sixteen.
+-- 10: the "sum of Q", over a list of domains
+abbrev pub reservedOf : List Domain → ℕ
+reservedOf ds = sum (map (λ (d : Domain). d .reservation) ds)
+
+-- and over a value: after 9 an absent domain has Q 0, so it is the sum of all sixteen
 unfoldable pub reserved : Plan → ℕ
 reserved p = sum (p .reservation)
 

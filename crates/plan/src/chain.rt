@@ -8,7 +8,7 @@ ghost use mathlib.Core.List.{_++_};
 ghost use Prim.Native.Nat.{_-_, _/_, _≤_};
 ghost use lib.ListN.{length, getD};
 ghost use Rattle.table.specs.Lines.{firstOf};
-ghost use Rattle.plan.specs.Records.{u16At, recordAt};
+ghost use Rattle.plan.specs.Records.{recordAt};
 ghost use Rattle.plan.specs.Chain.{noNumber, unlisted, linkTable, recordTable, walkedOf};
 
 // What following the chain came to: the refusal that ended it and the index it was met at, or 0 and 0 at the chain's
@@ -27,10 +27,11 @@ fn no_number(n: u8) -> bool
 }
 
 // Is an unlisted byte of a domain record not zero?
-fn any_unlisted(third: u8, rest: bool) -> bool
-    ensures { λ r. ⌜ r ≡ unlisted third rest ⌝ }
+fn any_unlisted(b: &[u8]) -> bool
+    requires { ⌜ length (now b) ≡ 16 ⌝ }
+    ensures { λ r. ⌜ r ≡ unlisted (now (b .entry)) ⌝ }
 {
-    third != 0 || !rest
+    b[3] != 0 || !records::all_zero(&b[10..16])
 }
 
 // The refusal that a record draws by itself, 6 to 9, or 0.
@@ -46,8 +47,7 @@ fn record_refusal(b: &[u8], period: u16, planned: [bool; 16]) -> u8
     if planned[at] {
         return 7;
     }
-    let rest = records::all_zero(&b[10..16]);
-    if any_unlisted(b[3], rest) {
+    if any_unlisted(b) {
         return 8;
     }
     let d = records::domain_in(b);

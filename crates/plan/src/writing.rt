@@ -4,10 +4,8 @@ use crate::value;
 use crate::value::Domain;
 use crate::value::Plan;
 ghost use mathlib.Core.Path.{_≡_};
-ghost use mathlib.Core.Bool.{cond};
 ghost use mathlib.Core.List.{_++_};
 ghost use Prim.Native.Nat.{_+_, _*_, _<_, _≤_};
-ghost use lib.Dec.{ltb};
 ghost use lib.ListN.{length, drop};
 ghost use Rattle.plan.specs.Writing.{nextIndex, recordOf, recordsFrom, Lists, writePlan, written};
 

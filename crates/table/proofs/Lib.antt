@@ -1,3 +1,4 @@
+-- The laws of those definitions, each stated once.
 pub mod Elements
 pub mod Flags
 pub mod Searches

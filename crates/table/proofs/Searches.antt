@@ -1,15 +1,13 @@
 -- Laws of tests over a range: every index, some index, the lowest.
 -- Assumes nothing.
-use mathlib.Core.Path.{_≡_, refl, sym, ap, ap₂, subst, _∙_}
-use mathlib.Core.Bool.{Bool, true, false, cond, _&&_, _||_, or-true, false≢true}
-use Prim.Native.Nat.{ℕ, zero, suc, _+_, _-_, _≤_, _<_}
+use mathlib.Core.Path.{_≡_, refl, sym, ap, ap₂, _∙_}
+use mathlib.Core.Bool.{Bool, true, false, _&&_, _||_, or-true}
+use Prim.Native.Nat.{ℕ, zero, suc, _+_, _-_, _<_}
 use native.Mathlib.Numerals.{add-one}
 use native.Mathlib.Decide.{ℕ-discrete}
 use native.Mathlib.Omega.{arith}
-use lib.Dec.{ltb}
-use borrow.Author.Tests.{lt-ltb, le-ltb}
-use Rattle.table.specs.Ranges.{everyBelow, someBelow, lowestFrom, lowest}
-use Rattle.table.proofs.Tables.{miss, hit, or-both}
+use Rattle.table.specs.Ranges.{everyBelow, someBelow, lowestFrom}
+use Rattle.table.proofs.Tables.{miss, hit, and-both, or-both}
 
 module _ (f : ℕ → Bool) where
   -- no index yet, and one more
@@ -30,10 +28,6 @@ module _ (f : ℕ → Bool) where
   some-more n e h = ap (someBelow f) (add-one n) ∙ ap₂ _||_ e h
 
   -- what the test of all, or of some, says of one index
-  and-both : (a b : Bool) → (a && b) ≡ true → (a ≡ true) × (b ≡ true)
-  and-both true b e = (refl, e)
-  and-both false b e = absurd (false≢true e)
-
   pub every-at : (n k : ℕ) → everyBelow f n ≡ true → k < n → f k ≡ true
   unfolding everyBelow
   every-at zero k e h = absurd (omega arith)

@@ -22,9 +22,16 @@ neg e = ap not e
 pub neg′ : {b : Bool} → b ≡ false → not b ≡ true
 neg′ e = ap not e
 
--- neither of two tests passes
+-- both of two tests pass, or neither does
+pub both : {a b : Bool} → a ≡ true → b ≡ true → (a && b) ≡ true
+both {a} {b} e f = rw (e, f)
+
 pub neither : {a b : Bool} → a ≡ false → b ≡ false → (a || b) ≡ false
 neither {a} {b} e f = rw (e, f)
+
+pub and-both : (a b : Bool) → (a && b) ≡ true → (a ≡ true) × (b ≡ true)
+and-both true b e = (refl, e)
+and-both false b e = absurd (false≢true e)
 
 pub or-both : (a b : Bool) → (a || b) ≡ false → (a ≡ false) × (b ≡ false)
 or-both true b e = absurd (false≢true (sym e))

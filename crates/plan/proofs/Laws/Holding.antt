@@ -1,6 +1,6 @@
 -- A plan that holds the domains of a list: what is known of it, and that it stays known when a domain is added.
 -- Assumes nothing.
-use mathlib.Core.Path.{_≡_, refl, sym, ap, ap₂, _∙_}
+use mathlib.Core.Path.{_≡_, refl, sym, ap, _∙_}
 use mathlib.Core.Bool.{Bool, true, false, cond}
 use mathlib.Core.List.{List, [], _∷_, _++_, map, map-append}
 use Prim.Native.Nat.{ℕ, zero, suc, _+_, _-_, _≤_, _<_}
@@ -10,12 +10,10 @@ use lib.ListN.{length, getD, set, replicate, length-set}
 use lib.Seq.{getD-set-same, getD-set-other}
 use Rattle.table.specs.Sums.{sum}
 use Rattle.table.specs.Members.{has}
-use Rattle.table.specs.Ranges.{someBelow}
-use Rattle.table.proofs.Tables.{miss, hit}
+use Rattle.table.proofs.Tables.{miss}
 use Rattle.table.proofs.Flags.{has-none, none-set, flags-more}
 use Rattle.table.proofs.Elements.{sum-zeros, sum-none, sum-snoc, sum-set}
-use Rattle.plan.specs.Value.{Sized, noDomains, withDomain, withAll, planOf, above, mostOf, outOfRange}
-use Rattle.plan.specs.Reading.{reservedOf}
+use Rattle.plan.specs.Value.{reservedOf, Sized, noDomains, withDomain, withAll, planOf, above, mostOf, outOfRange}
 use Rattle.plan.specs.declared.value.Domain.{Domain}
 use Rattle.plan.specs.declared.value.Plan.{Plan}
 use Rattle.plan.proofs.Laws.Values.{above-fits, fits-above}

@@ -1,20 +1,19 @@
 -- Laws of the chain: its links, what a record that is taken is known to be, and the walk, which no other file unfolds.
 -- Assumes nothing.
-use mathlib.Core.Path.{_≡_, refl, sym, ap, ap₂, subst, _∙_}
-use mathlib.Core.Bool.{Bool, true, false, cond, not, _||_, false≢true}
+use mathlib.Core.Path.{_≡_, refl, sym, ap, _∙_}
+use mathlib.Core.Bool.{Bool, true, false, cond, not, _&&_, and-false, false≢true}
 use mathlib.Core.List.{List, [], _∷_, _++_, map, map-map}
-use Prim.Native.Nat.{ℕ, zero, suc, _+_, _-_, _/_, _≤_, _<_, zero-le}
+use Prim.Native.Nat.{ℕ, zero, suc, _+_, _-_, _≤_, _<_, zero-le}
 use native.Mathlib.Nat.{add-zero, sub-zero}
 use native.Mathlib.Omega.{arith}
 use lib.ListN.{length, getD, set, replicate, length-set}
 use lib.Dec.{eqb, ltb}
-use borrow.Author.Tests.{eqb-true, eqb-false, eq-eqb, ne-eqb, ltb-false, le-ltb, leb-false, lt-leb, not-true, not-false}
-use Rattle.table.specs.Members.{has, lastOf}
-use Rattle.table.specs.Lines.{Line, firstOf}
-use Rattle.table.proofs.Tables.{miss, hit, neg, neg′, neither, or-both, clear, unapplied}
+use borrow.Author.Tests.{eqb-true, eqb-false, eq-eqb, ne-eqb, ltb-false, le-ltb, leb-false, lt-leb, not-true}
+use Rattle.table.specs.Members.{has}
+use Rattle.table.specs.Lines.{Line}
+use Rattle.table.proofs.Tables.{miss, hit, neg′, both, neither, and-both, or-both, clear, unapplied}
 use Rattle.table.proofs.Flags.{has-none, last-none, last-snoc, none-set, flags-more, unset, unset-all, unset-set, unset-none}
-use Rattle.plan.specs.Value.{above}
-use Rattle.plan.specs.Records.{part, zeros, u16At, recordAt, recordCount, periodIn, firstIn, nextIn, domainIn, domainAt, numberAt}
+use Rattle.plan.specs.Records.{recordAt, recordCount, periodIn, firstIn, nextIn, domainAt, numberAt}
 use Rattle.plan.specs.Chain.{linkTable, noNumber, unlisted, recordTable, linkOf, link, faultAt, fault, goesOn, walk, chainOf, domainsAt, WalkEnds}
 use Rattle.plan.specs.declared.value.Domain.{Domain}
 use Rattle.plan.proofs.Laws.Holding.{Fine, numbers}
@@ -36,7 +35,7 @@ pub record Taken (s chain : List ℕ) (i : ℕ) : Type 0 where
   pub inside : i < recordCount s
   pub new : has i chain ≡ false
   pub unmet : has (numberAt s i) (map (numberAt s) chain) ≡ false
-  pub listed : unlisted (getD (recordAt s i) 3 0) (zeros (part (recordAt s i) 10 6)) ≡ false
+  pub listed : unlisted (recordAt s i) ≡ false
   pub fine : Fine (periodIn s) (domainAt s i)
 
 module _ (s chain : List ℕ) (i : ℕ) where
@@ -94,39 +93,22 @@ module _ (s : List ℕ) where
     pub goes : goesOn s chain ≡ true → (link s chain ≡ 0 → ⊥) × Taken s chain (link s chain)
     unfolding goesOn
     goes e =
-        let b = or-both (eqb (link s chain) 0) (not (eqb (fault s chain) 0)) (round (eqb (link s chain) 0 || not (eqb (fault s chain) 0)) e) in
-        let n = eqb-false (link s chain) 0 (b .0) in
-        (n, taken s chain (link s chain) (sym (fault-at n) ∙ eqb-true (fault s chain) 0 (not-false (eqb (fault s chain) 0) (b .1))))
-      where
-        round : (b : Bool) → not b ≡ true → b ≡ false
-        round b e = not-true b e
+        let b = and-both (not (eqb (link s chain) 0)) (eqb (fault s chain) 0) e in
+        let n = eqb-false (link s chain) 0 (not-true (eqb (link s chain) 0) (b .0)) in
+        (n, taken s chain (link s chain) (sym (fault-at n) ∙ eqb-true (fault s chain) 0 (b .1)))
 
     pub go-on : (link s chain ≡ 0 → ⊥) → faultAt s chain (link s chain) ≡ 0 → goesOn s chain ≡ true
     unfolding goesOn
-    go-on n e = ap not (neither (ne-eqb (link s chain) 0 n) (neg (eq-eqb (fault s chain) 0 (fault-at n ∙ e))))
+    go-on n e = both (neg′ (ne-eqb (link s chain) 0 n)) (eq-eqb (fault s chain) 0 (fault-at n ∙ e))
 
     -- it goes no further: the link is 0, or it draws a refusal
     pub stop-end : link s chain ≡ 0 → goesOn s chain ≡ false
     unfolding goesOn
-    stop-end e = ap (λ (b : Bool). not (b || not (eqb (fault s chain) 0))) (eq-eqb (link s chain) 0 e)
+    stop-end e = ap (λ (b : Bool). not b && eqb (fault s chain) 0) (eq-eqb (link s chain) 0 e)
 
     pub stop-fault : (fault s chain ≡ 0 → ⊥) → goesOn s chain ≡ false
     unfolding goesOn
-    stop-fault n = ap (λ (b : Bool). not (eqb (link s chain) 0 || b)) (neg′ (ne-eqb (fault s chain) 0 n)) ∙ ends (eqb (link s chain) 0)
-      where
-        ends : (b : Bool) → not (b || true) ≡ false
-        ends true = refl
-        ends false = refl
-
-    -- where it goes no further and no refusal is drawn, the link is 0
-    pub end-link : goesOn s chain ≡ false → fault s chain ≡ 0 → link s chain ≡ 0
-    unfolding goesOn
-    end-link e f = eqb-true (link s chain) 0 (only (eqb (link s chain) 0) (eqb (fault s chain) 0) (eq-eqb (fault s chain) 0 f) e)
-      where
-        only : (a b : Bool) → b ≡ true → not (a || not b) ≡ false → a ≡ true
-        only true b e q = refl
-        only false true e q = absurd (false≢true (sym q))
-        only false false e q = absurd (false≢true e)
+    stop-fault n = ap (λ (b : Bool). not (eqb (link s chain) 0) && b) (ne-eqb (fault s chain) 0 n) ∙ and-false (not (eqb (link s chain) 0))
 
     -- one step of the walk, or none, at any bound
     pub walk-stops : goesOn s chain ≡ false → (n : ℕ) → walk n s chain ≡ chain

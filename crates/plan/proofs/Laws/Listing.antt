@@ -2,7 +2,7 @@
 -- make the plan again.
 -- Assumes nothing.
 use mathlib.Core.Path.{_≡_, refl, sym, ap, ap₂, subst, _∙_}
-use mathlib.Core.Bool.{Bool, true, false, cond}
+use mathlib.Core.Bool.{Bool, true, false}
 use mathlib.Core.List.{List, [], _∷_, _++_, append-nil, map-append}
 use Prim.Native.Nat.{ℕ, zero, suc, _+_, _-_, _≤_, _<_}
 use native.Mathlib.Numerals.{add-one}
@@ -13,7 +13,7 @@ use lib.Seq.{take-suc-set, take-append-le, take-at, take-suc, take-all, getD-at,
 use Rattle.table.specs.Members.{has}
 use Rattle.table.proofs.Tables.{miss, hit}
 use Rattle.table.proofs.Flags.{has-none, has-more}
-use Rattle.plan.specs.Value.{Sized, noDomains, withDomain, withAll, planOf, domainOf, domainsTo, domainsOf, above, mostOf, outOfRange}
+use Rattle.plan.specs.Value.{Sized, noDomains, withDomain, planOf, domainOf, domainsTo, domainsOf, above, mostOf, outOfRange}
 use Rattle.plan.specs.Writing.{nobody, Lists}
 use Rattle.plan.specs.declared.value.Domain.{Domain}
 use Rattle.plan.specs.declared.value.Plan.{Plan}

@@ -1,29 +1,27 @@
 -- What reading answers, case by case, and what is known of a file that is accepted.
 -- Assumes nothing.
-use mathlib.Core.Path.{_≡_, refl, sym, ap, ap₂, subst, _∙_}
-use mathlib.Core.Bool.{Bool, true, false, not, _&&_}
+use mathlib.Core.Path.{_≡_, sym, ap, subst, _∙_}
+use mathlib.Core.Bool.{true, false, not}
 use mathlib.Core.List.{List, [], _∷_, _++_, map-append}
 use Prim.Native.Nat.{ℕ, _≤_, _<_}
 use native.Mathlib.Omega.{arith}
 use lib.ListN.{length}
-use lib.Dec.{eqb, ltb, T}
+use lib.Dec.{eqb, ltb}
 use borrow.Author.Tests.{eqb-true, eq-eqb, ne-eqb, lt-ltb, le-ltb, ltb-false, not-false}
 use Rattle.table.specs.Sums.{sum}
 use Rattle.table.specs.Members.{has}
-use Rattle.table.specs.Ranges.{someBelow}
 use Rattle.table.specs.Lines.{firstOf}
 use Rattle.table.proofs.Tables.{miss, hit, neg, neg′, clear, tells-itself}
 use Rattle.table.proofs.Searches.{some-all}
-use Rattle.plan.specs.Value.{Sized, noPeriod, noDomains, withDomain, planOf, outOfRange, reserved, planRefusal, refusal}
-use Rattle.plan.specs.Records.{part, zeros, periodIn, domainAt, numberAt}
-use Rattle.plan.specs.Chain.{link, fault, goesOn, walk, chainOf, domainsAt, domainsIn, walkedOf}
-use Rattle.plan.specs.Reading.{noLength, headTable, refusedReading, acceptedReading, reservedOf, readPlan}
+use Rattle.plan.specs.Value.{reservedOf, Sized, noPeriod, noDomains, planOf, outOfRange, reserved, planRefusal, refusal}
+use Rattle.plan.specs.Records.{periodIn, domainAt}
+use Rattle.plan.specs.Chain.{link, fault, goesOn, chainOf, domainsAt, domainsIn, walkedOf}
+use Rattle.plan.specs.Reading.{headTable, refusedReading, acceptedReading, readPlan}
 use Rattle.plan.specs.RoundTrip.{ReadIsAccepted}
 use Rattle.plan.specs.declared.value.Domain.{Domain}
-use Rattle.plan.specs.declared.value.Plan.{Plan}
 use Rattle.plan.specs.declared.chain.Walked.{Walked}
 use Rattle.plan.specs.declared.reading.Reading.{Reading}
-use Rattle.plan.proofs.Laws.Values.{period-fits, accept}
+use Rattle.plan.proofs.Laws.Values.{accept}
 use Rattle.plan.proofs.Laws.Heads.{Whole, length-fits}
 use Rattle.plan.proofs.Laws.Holding.{Holds, holds-none, holds-more, with-none, numbers}
 use Rattle.plan.proofs.Laws.Links.{goes, numbers-met, walk-keeps}

@@ -3,30 +3,29 @@
 -- Assumes nothing.
 use mathlib.Core.Path.{_≡_, refl, sym, ap, ap₂, subst, _∙_}
 use mathlib.Core.Bool.{Bool, true, false, cond, not}
-use mathlib.Core.List.{List, [], _∷_, _++_, append-nil, append-assoc, map-append}
+use mathlib.Core.List.{List, [], _∷_, _++_, append-assoc, map-append}
 use Prim.Native.Nat.{ℕ, zero, suc, _+_, _-_, _*_, _/_, _%_, _≤_, _<_}
 use native.Mathlib.Nat.{zero-add}
 use native.Mathlib.Numerals.{add-one}
 use native.Mathlib.Omega.{arith}
-use lib.ListN.{length, getD, take, drop, length-append, length-drop, take-append-drop}
+use lib.ListN.{length, getD, take, drop, length-append, length-drop}
 use lib.Seq.{take-suc, take-all, take-at, take-append-add, length-take-le}
-use lib.Dec.{eqb, ltb}
+use lib.Dec.{ltb}
 use borrow.Author.Tests.{lt-ltb, le-ltb, ltb-true}
 use Rattle.table.specs.Sums.{sum}
 use Rattle.table.specs.Members.{has}
 use Rattle.table.specs.Lines.{firstOf}
 use Rattle.table.proofs.Tables.{miss, hit, unapplied}
 use Rattle.table.proofs.Flags.{has-none, has-more}
-use Rattle.plan.specs.Value.{Sized, noPeriod, planOf, domainsOf, reserved, planRefusal}
-use Rattle.plan.specs.Records.{part, zeros, u16At, recordAt, recordCount, periodIn, firstIn, nextIn, domainIn, domainAt, numberAt, headRecord, domainRecord}
+use Rattle.plan.specs.Value.{reservedOf, Sized, noPeriod, planOf, domainsOf, reserved}
+use Rattle.plan.specs.Records.{part, zeros, recordAt, periodIn, firstIn, nextIn, domainIn, domainAt, headRecord, domainRecord}
 use Rattle.plan.specs.Chain.{unlisted, link, faultAt, fault, goesOn, walk, chainOf, domainsAt, domainsIn, walkedOf}
-use Rattle.plan.specs.Reading.{headTable, acceptedReading, reservedOf, readPlan}
+use Rattle.plan.specs.Reading.{headTable, acceptedReading, readPlan}
 use Rattle.plan.specs.Writing.{nextIndex, nobody, recordOf, recordsFrom, fileWith, fileOf, needed, writePlan, written}
-use Rattle.plan.specs.RoundTrip.{WriteThenRead, BytesOfPlanOnly, WrittenIsAccepted, rewritten}
+use Rattle.plan.specs.RoundTrip.{WriteThenRead, BytesOfPlanOnly, WrittenIsAccepted}
 use Rattle.plan.specs.declared.value.Domain.{Domain}
 use Rattle.plan.specs.declared.value.Plan.{Plan}
 use Rattle.plan.specs.declared.reading.Reading.{Reading}
-use Rattle.plan.specs.declared.writing.Writing.{Writing}
 use Rattle.plan.proofs.Laws.Bytes.{two}
 use Rattle.plan.proofs.Laws.Values.{above-fits, fits-period, accepted}
 use Rattle.plan.proofs.Laws.Heads.{Whole, fits-length}
@@ -35,7 +34,7 @@ use Rattle.plan.proofs.Laws.Links.{Taken, untaken, link-first, link-aft
 use Rattle.plan.proofs.Laws.Reading.{chain-held, read-plan}
 use Rattle.plan.proofs.Laws.Listing.{Sound, plan-sound, plan-holds, plan-back, few-domains}
 use Rattle.plan.proofs.Laws.Filing.{record-head, record-domain, record-sixteen, records-first, records-length, records-at}
-use Rattle.plan.proofs.Laws.Writing.{Wrote, wrote, put}
+use Rattle.plan.proofs.Laws.Writing.{wrote, put}
 
 -- a domain's record reads back as the domain
 domain-back : (P next : ℕ) (d : Domain) → P ≤ 4096 → Fine P d → domainIn (domainRecord next d) ≡ d
@@ -124,7 +123,7 @@ module _ (P : ℕ) (ds : List Domain) (behind : List ℕ) (one : 1 ≤ P) (small
         unmet =
             ap₂ has (ap (λ (d : Domain). d .number) (domain-is k h)) (sym (numbers-met t (indices k)) ∙ ap numbers (domains-are k (omega arith)))
             ∙ v .new k h;
-        listed = ap (λ (b : List ℕ). unlisted (getD b 3 0) (zeros (part b 10 6))) (record-is k h);
+        listed = ap unlisted (record-is k h);
         fine = subst (λ (d : Domain). Fine (periodIn t) d) (sym (domain-is k h)) (subst (λ (Q : ℕ). Fine Q (getD ds k nobody)) (sym period-back) (v .fine k h));
       }
 

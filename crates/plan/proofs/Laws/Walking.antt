@@ -3,16 +3,16 @@
 use mathlib.Core.Path.{_≡_, refl, sym, ap, ap₂, subst, _∙_}
 use mathlib.Core.Bool.{Bool, true, false, cond}
 use mathlib.Core.List.{List, [], _∷_, _++_, map, map-append}
-use Prim.Native.Nat.{ℕ, suc, _+_, _-_, _*_, _/_, _≤_, _<_}
+use Prim.Native.Nat.{ℕ, suc, _+_, _-_, _/_, _≤_, _<_}
 use native.Mathlib.Nat.{add-zero}
 use native.Mathlib.Omega.{arith}
 use lib.ListN.{length, getD, set, replicate, length-set}
-use lib.Dec.{eqb, leb}
+use lib.Dec.{leb}
 use Rattle.table.specs.Members.{has}
 use Rattle.table.specs.Lines.{firstOf}
 use Rattle.table.proofs.Flags.{has-none, none-set, unset, unset-all, unset-set}
 use Rattle.plan.specs.Value.{noDomains, withDomain, planOf}
-use Rattle.plan.specs.Records.{recordAt, recordCount, periodIn, firstIn, nextIn, domainIn, domainAt, numberAt}
+use Rattle.plan.specs.Records.{recordAt, periodIn, firstIn, nextIn, domainIn, domainAt, numberAt}
 use Rattle.plan.specs.Chain.{noNumber, linkTable, recordTable, link, faultAt, fault, goesOn, walk, chainOf, domainsAt, walkedOf}
 use Rattle.plan.specs.declared.value.Domain.{Domain}
 use Rattle.plan.specs.declared.value.Plan.{Plan}

@@ -1,15 +1,15 @@
 -- What writing answers and what the buffer holds then, case by case.
 -- Assumes nothing.
-use mathlib.Core.Path.{_≡_, refl, sym, ap, ap₂, _∙_}
+use mathlib.Core.Path.{_≡_, sym, ap, ap₂, _∙_}
 use mathlib.Core.Bool.{false, not}
 use mathlib.Core.List.{List, [], _∷_, _++_}
-use Prim.Native.Nat.{ℕ, _+_, _*_, _≤_, _<_}
+use Prim.Native.Nat.{ℕ, _+_, _≤_, _<_}
 use native.Mathlib.Omega.{arith}
 use lib.ListN.{length, take, drop}
 use lib.Dec.{eqb, ltb}
 use borrow.Author.Tests.{eqb-true, eq-eqb, ne-eqb, lt-ltb, le-ltb, ltb-false, not-false}
 use Rattle.table.proofs.Tables.{miss, hit, neg, neg′, clear, tells-itself}
-use Rattle.plan.specs.Value.{domainsOf, planRefusal}
+use Rattle.plan.specs.Value.{planRefusal}
 use Rattle.plan.specs.Writing.{recordOf, recordsFrom, fileOf, needed, refusedWriting, writePlan, written, Lists}
 use Rattle.plan.specs.declared.value.Domain.{Domain}
 use Rattle.plan.specs.declared.value.Plan.{Plan}

@@ -1,7 +1,7 @@
 -- `plan::chain::record_refusal` meets its contract, line by line of the table.
 -- Assumes nothing.
 use mathlib.Core.Path.{_≡_, sym, ap, _∙_}
-use mathlib.Core.Bool.{Bool, false}
+use mathlib.Core.Bool.{false}
 use mathlib.Core.List.{List}
 use Prim.Native.Nat.{ℕ, _-_, _≤_}
 use native.Mathlib.Omega.{arith}
@@ -11,8 +11,8 @@ use borrow.Author.Needs.{needs}
 use Rattle.table.specs.Lines.{Line, firstOf}
 use Rattle.table.proofs.Tables.{miss, hit}
 use Rattle.plan.specs.Value.{above}
-use Rattle.plan.specs.Records.{part, zeros, domainIn}
-use Rattle.plan.specs.Chain.{unlisted, recordTable}
+use Rattle.plan.specs.Records.{domainIn}
+use Rattle.plan.specs.Chain.{recordTable}
 use Rattle.plan.specs.declared.value.Domain.{Domain}
 use Rattle.plan.proofs.Laws.Links.{number-fits}
 use borrow.Author.Needs.{needs}
@@ -55,34 +55,14 @@ returns-2 c = sym (past1 (c .before) ∙ hit _ _ _ (c .if2 .taken))
 past2 : (c : tie.Else2) → (let t = lines (c .before .before .before .before .before) in firstOf t 0 ≡ firstOf (drop 2 t) 0)
 past2 c = past1 (c .before) ∙ miss _ _ _ (c .if2 .left)
 
-sub-all-zero : tie.Need-sub-all-zero
-sub-all-zero c = search needs
-
-part-all-zero-start : tie.Need-part-all-zero-start
-part-all-zero-start c = search needs
-
-part-all-zero-end : tie.Need-part-all-zero-end
-part-all-zero-end c = search needs
-
-all-zero-requires : tie.Need-all-zero-requires
-all-zero-requires c κs = search needs
-
-shared-slice-read-any-unlisted : tie.Need-shared-slice-read-any-unlisted
-shared-slice-read-any-unlisted c = search needs
-
 any-unlisted-requires : tie.Need-any-unlisted-requires
 any-unlisted-requires c κs = search needs
 
--- the test of the unlisted bytes
-listed : (c : tie.After-any-unlisted) → (let b = now (c .before .before .before .before .before .before .before .before .before .args .b) in
-    c .any-unlisted .result ≡ unlisted (getD b 3 0) (zeros (part b 10 6)))
-listed c = c .any-unlisted .ensures ∙ ap (unlisted _) (c .before .before .all-zero .ensures)
-
 returns-3 : tie.Need-returns-3
-returns-3 c = sym (past2 (c .before .before .before .before .before) ∙ hit _ _ _ (sym (listed (c .before)) ∙ c .if3 .taken))
+returns-3 c = sym (past2 (c .before .before) ∙ hit _ _ _ (sym (c .before .any-unlisted .ensures) ∙ c .if3 .taken))
 
-past3 : (c : tie.Else3) → (let t = lines (c .before .before .before .before .before .before .before .before .before .before) in firstOf t 0 ≡ firstOf (drop 3 t) 0)
-past3 c = past2 (c .before .before .before .before .before) ∙ miss _ _ _ (sym (listed (c .before)) ∙ c .if3 .left)
+past3 : (c : tie.Else3) → (let t = lines (c .before .before .before .before .before .before .before) in firstOf t 0 ≡ firstOf (drop 3 t) 0)
+past3 c = past2 (c .before .before) ∙ miss _ _ _ (sym (c .before .any-unlisted .ensures) ∙ c .if3 .left)
 
 domain-in-requires : tie.Need-domain-in-requires
 domain-in-requires c κs = search needs
@@ -92,11 +72,11 @@ any-above-requires c κs = search needs
 
 -- the test of the three numbers
 range : (c : tie.After-any-above)
-    → (let a = c .before .before .before .before .before .before .before .before .before .before .before .before .args in
+    → (let a = c .before .before .before .before .before .before .before .before .before .args in
     let d = domainIn (now (a .b)) in c .any-above .result ≡ above (a .period) (d .reservation) (d .reclaimcap) (d .writebackcap))
 range c =
     c .any-above .ensures
-    ∙ ap (λ (d : Domain). above (c .before .before .before .before .before .before .before .before .before .before .before .before .args .period) (d .reservation) (d .reclaimcap) (d .writebackcap))
+    ∙ ap (λ (d : Domain). above (c .before .before .before .before .before .before .before .before .before .args .period) (d .reservation) (d .reclaimcap) (d .writebackcap))
     (c .before .domain-in .ensures)
 
 returns-4 : tie.Need-returns-4
@@ -116,11 +96,6 @@ record-refusal-spec =
     cast-at
     array-read-if2
     returns-2
-    sub-all-zero
-    part-all-zero-start
-    part-all-zero-end
-    all-zero-requires
-    shared-slice-read-any-unlisted
     any-unlisted-requires
     returns-3
     domain-in-requires
