@@ -17,7 +17,7 @@ use Rattle.table.specs.Members.{has}
 use Rattle.table.specs.Lines.{firstOf}
 use Rattle.table.proofs.Tables.{miss, hit, unapplied}
 use Rattle.table.proofs.Flags.{has-none, has-more}
-use Rattle.plan.specs.Value.{reservedOf, Sized, noPeriod, planOf, domainsOf, reserved}
+use Rattle.plan.specs.Value.{reservedOf, Sized, noPeriod, planOf, domainsOf, reserved, planRefusal}
 use Rattle.plan.specs.Records.{part, zeros, recordAt, periodIn, firstIn, nextIn, domainIn, domainAt, headRecord, domainRecord}
 use Rattle.plan.specs.Chain.{unlisted, link, faultAt, fault, goesOn, walk, chainOf, domainsAt, domainsIn, walkedOf}
 use Rattle.plan.specs.Reading.{headTable, acceptedReading, readPlan}
@@ -25,16 +25,17 @@ use Rattle.plan.specs.Writing.{nextIndex, nobody, recordOf, recordsFrom,
 use Rattle.plan.specs.RoundTrip.{WriteThenRead, BytesOfPlanOnly, WrittenIsAccepted}
 use Rattle.plan.specs.declared.value.Domain.{Domain}
 use Rattle.plan.specs.declared.value.Plan.{Plan}
+use Rattle.plan.specs.declared.value.Refusal.{Refusal}
 use Rattle.plan.specs.declared.reading.Reading.{Reading}
 use Rattle.plan.proofs.Laws.Bytes.{two}
 use Rattle.plan.proofs.Laws.Values.{above-fits, fits-period, accepted}
 use Rattle.plan.proofs.Laws.Heads.{Whole, fits-length}
 use Rattle.plan.proofs.Laws.Holding.{Fine, numbers}
 use Rattle.plan.proofs.Laws.Links.{Taken, untaken, link-first, link-after, numbers-met, fault-end, go-on, stop-end, walk-stops, walk-goes}
-use Rattle.plan.proofs.Laws.Reading.{chain-held, read-plan}
+use Rattle.plan.proofs.Laws.Reading.{chain-held, read-plan, read-is-accepted}
 use Rattle.plan.proofs.Laws.Listing.{Sound, plan-sound, plan-holds, plan-back, few-domains}
 use Rattle.plan.proofs.Laws.Filing.{record-head, record-domain, record-sixteen, records-first, records-length, records-at}
-use Rattle.plan.proofs.Laws.Writing.{wrote, put}
+use Rattle.plan.proofs.Laws.Writing.{written-none, wrote, put}
 
 -- a domain's record reads back as the domain
 domain-back : (P next : ℕ) (d : Domain) → P ≤ 4096 → Fine P d → domainIn (domainRecord next d) ≡ d
@@ -170,22 +171,18 @@ file-length p =
 pub write-then-read : WriteThenRead
 unfolding reserved
 write-then-read p b m z e low high short even =
-    let r = wrote p (length b) e in
-    let a = accepted p (r .value) in
+    let a = accepted p e in
     let ds = domainsOf p in
     let behind = take (m - needed p) (drop (needed p) b) in
-    let split : m ≡ length (fileOf p) + (m - needed p) = omega (arith, file-length p, r .bytes) in
+    let split : m ≡ length (fileOf p) + (m - needed p) = omega (arith, file-length p) in
     let is : take m (written p b) ≡ fileOf p ++ behind =
-    ap (take m) (sym (put p b e)) ∙ ap (λ (x : ℕ). take x (fileOf p ++ drop (needed p) b)) split ∙ take-append-add (fileOf p) (drop (needed p) b) (m - needed p) in
+    ap (take m) (sym (put p b (written-none p (length b) e (omega arith)))) ∙ ap (λ (x : ℕ). take x (fileOf p ++ drop (needed p) b)) split
+    ∙ take-append-add (fileOf p) (drop (needed p) b) (m - needed p) in
     let size : length (fileOf p ++ behind) ≡ m =
-    length-append (fileOf p) behind ∙ omega (arith, file-length p, r .bytes, length-take-le (m - needed p) (drop (needed p) b) (simp length-drop (omega arith))) in
+    length-append (fileOf p) behind ∙ omega (arith, file-length p, length-take-le (m - needed p) (drop (needed p) b) (simp length-drop (omega arith))) in
     let total : reservedOf ds ≤ p .period = omega (arith, plan-holds p a .total, ap (λ (q : Plan). sum (q .reservation)) (plan-back p z a), a .sum) in
     let whole : Whole (length (fileOf p ++ behind)) =
-    record {
-      long = omega (arith, size, r .bytes, few-domains p);
-      short = omega (arith, size);
-      even = ap (λ (x : ℕ). x % 16) size ∙ even;
-    } in
+    record { long = omega (arith, size); short = omega (arith, size); even = ap (λ (x : ℕ). x % 16) size ∙ even } in
     ap readPlan is ∙ file-back (p .period) ds behind (a .one) (a .small) (few-domains p) (plan-sound p a) whole total ∙ ap acceptedReading (plan-back p z a)
 
 -- the bytes written are the plan's file
@@ -194,20 +191,26 @@ bytes-are p b e =
     ap₂ (λ (n : ℕ) (l : List ℕ). take n l) (wrote p (length b) e .bytes) (sym (put p b e)) ∙ take-at (fileOf p) (drop (needed p) b) (needed p) (file-length p)
 
 pub bytes-of-plan-only : BytesOfPlanOnly
-bytes-of-plan-only s t b c same e g = bytes-are (readPlan s .plan) b e ∙ ap fileOf same ∙ sym (bytes-are (readPlan t .plan) c g)
+bytes-of-plan-only s t b c es et same rb rc =
+    let value : (x : List ℕ) → readPlan x .refused ≡ 0 → planRefusal (readPlan x .plan) .refused ≡ 0 =
+    λ x e. ap (λ (r : Refusal). r .refused) (read-is-accepted x e .1) in
+    bytes-are (readPlan s .plan) b (written-none (readPlan s .plan) (length b) (value s es) rb)
+    ∙ ap fileOf same ∙ sym (bytes-are (readPlan t .plan) c (written-none (readPlan t .plan) (length c) (value t et) rc))
 
--- the bytes written are a part that can be read
+-- the bytes written are a part of the buffer, and of a file's length
 pub part-fits : (p : Plan) (b : List ℕ) → writePlan p (length b) .refused ≡ 0
-    → (let m = writePlan p (length b) .bytes in (m ≤ length b) × (m ≤ 1024) × (m % 16 ≡ 0))
+    → (let m = writePlan p (length b) .bytes in (needed p ≤ m) × (m ≤ length b) × (m ≤ 1024) × (m % 16 ≡ 0))
 part-fits p b e =
     let r = wrote p (length b) e in
     let few = few-domains p in
-    (omega (arith, r .bytes, r .room), omega (arith, r .bytes), ap (λ (x : ℕ). x % 16) (r .bytes) ∙ omega arith)
+    (omega (arith, r .bytes), omega (arith, r .bytes, r .room), omega (arith, r .bytes), ap (λ (x : ℕ). x % 16) (r .bytes) ∙ omega arith)
 
 -- reading just the bytes written
 pub write-read : (p : Plan) (b : List ℕ) → Sized p → writePlan p (length b) .refused ≡ 0
     → readPlan (take (writePlan p (length b) .bytes) (written p b)) ≡ acceptedReading p
-write-read p b z e = let h = part-fits p b e in write-then-read p b (writePlan p (length b) .bytes) z e (omega arith) (h .0) (h .1) (h .2)
+write-read p b z e =
+    let h = part-fits p b e in
+    write-then-read p b (writePlan p (length b) .bytes) z (wrote p (length b) e .value) (h .0) (h .1) (h .2) (h .3)
 
 pub written-is-accepted : WrittenIsAccepted
 written-is-accepted p b z e = ap (λ (r : Reading). r .refused) (write-read p b z e)

@@ -1,6 +1,6 @@
 -- What writing answers and what the buffer holds then, case by case.
 -- Assumes nothing.
-use mathlib.Core.Path.{_≡_, sym, ap, ap₂, _∙_}
+use mathlib.Core.Path.{_≡_, refl, sym, ap, ap₂, _∙_}
 use mathlib.Core.Bool.{false, not}
 use mathlib.Core.List.{List, [], _∷_, _++_}
 use Prim.Native.Nat.{ℕ, _+_, _≤_, _<_}
@@ -39,6 +39,10 @@ module _ (p : Plan) (n : ℕ) (r : Refusal) (e : r ≡ planRefusal p) where
     pub answer-done : needed p ≤ n → record { refused = 0; place = 0; bytes = needed p } ≡ writePlan p n
     unfolding writePlan
     answer-done h = sym (miss _ _ _ past-value ∙ miss _ _ _ (le-ltb n (needed p) h))
+
+-- a plan that is accepted is written, where there is room
+pub written-none : (p : Plan) (n : ℕ) → planRefusal p .refused ≡ 0 → needed p ≤ n → writePlan p n .refused ≡ 0
+written-none p n e h = sym (ap (λ (w : Writing). w .refused) (answer-done p n (planRefusal p) refl e h))
 
 -- what an answer without a refusal says
 pub record Wrote (p : Plan) (n : ℕ) : Type 0 where
