@@ -34,11 +34,12 @@ recordTable P met b =
     ∷ (above P (domainIn b .reservation) (domainIn b .reclaimcap) (domainIn b .writebackcap), 9)
     ∷ []
 
--- The link that is followed after the records of `chain`: that of the last of them, or that of record 0 where there is none.
+-- the link that record i holds: the first domain record of record 0, the next of a domain record
 unfoldable pub linkOf : List ℕ → ℕ → ℕ
 linkOf s zero = firstIn s
 linkOf s (suc i) = nextIn (recordAt s (suc i))
 
+-- The link that is followed after the records of `chain`: that of the last of them, or that of record 0 where there is none.
 abbrev pub link : List ℕ → List ℕ → ℕ
 link s chain = linkOf s (lastOf 0 chain)
 
@@ -57,8 +58,8 @@ fault s chain = cond (eqb (link s chain) 0) 0 (faultAt s chain (link s chain))
 unfoldable pub goesOn : List ℕ → List ℕ → Bool
 goesOn s chain = not (eqb (link s chain) 0) && eqb (fault s chain) 0
 
--- The records taken after those of `chain`, which stand before them. The first argument bounds the steps; `WalkEnds`
--- says that 64 are enough.
+-- The links after the records of `chain` are followed, and each record taken is put behind them. The first argument bounds
+-- the steps; `WalkEnds` says that 64 are enough.
 unfoldable pub walk : ℕ → List ℕ → List ℕ → List ℕ
 walk zero s chain = chain
 walk (suc n) s chain = let more = walk n s (chain ++ (link s chain ∷ [])) in cond (goesOn s chain) more chain

@@ -28,6 +28,12 @@ unfolding sum
 sum-snoc [] x = omega arith
 sum-snoc (y ∷ l) x = omega (arith, sum-snoc l x)
 
+-- a list of one value holds it everywhere, and past its end where that is the default
+pub repeat-at : {A : Type 0} (n k : ℕ) (z : A) → getD (replicate n z) k z ≡ z
+repeat-at zero k z = refl
+repeat-at (suc n) zero z = refl
+repeat-at (suc n) (suc k) z = repeat-at n k z
+
 -- one element set: the sum loses what stood there and gains what stands there now
 pub sum-set : (l : List ℕ) (i v : ℕ) → i < length l → sum (set l i v) + getD l i 0 ≡ sum l + v
 unfolding sum

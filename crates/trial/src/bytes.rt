@@ -1,4 +1,4 @@
-// Bytes of files and lent buffers: put, filled and compared.
+// Bytes of files and lent buffers: put and filled.
 ghost use Prim.Native.Nat.{_<_};
 use super::draw;
 
@@ -79,18 +79,4 @@ pub fn fill(file: &mut [u8], bytes: u32, seed: u32, style: u32) {
         put(file, at as usize, filling(seed, style, at));
         at += 1;
     }
-}
-
-pub fn same(a: &[u8], b: &[u8]) -> bool {
-    if a.len() != b.len() {
-        return false;
-    }
-    let mut i = 0;
-    while i < a.len() {
-        if a[i] != b[i] {
-            return false;
-        }
-        i += 1;
-    }
-    true
 }

@@ -145,7 +145,7 @@ fn written(p: Plan, domains: [u32; 64], size: usize, seed: u32) -> Verdict {
     let back = comes_back(&a, t, expected(t, period, domains));
     Verdict {
         number: t.number,
-        same: all3(same_writing(w, t), bytes::same(&a, &b), back),
+        same: all3(same_writing(w, t), check::same(&a, &b), back),
     }
 }
 
@@ -160,7 +160,7 @@ fn returned(p: Plan, domains: [u32; 64], size: usize, seed: u32) -> bool {
     let t = model_writes(period, domains, &mut b, size);
     both(
         same_answers(answer(r), expected(t, period, domains)),
-        bytes::same(&a, &b),
+        check::same(&a, &b),
     )
 }
 

@@ -1,8 +1,8 @@
 -- Laws of the chain: its links, what a record that is taken is known to be, and the walk, which no other file unfolds.
 -- Assumes nothing.
-use mathlib.Core.Path.{_≡_, refl, sym, ap, _∙_}
+use mathlib.Core.Path.{_≡_, refl, sym, ap, subst, _∙_}
 use mathlib.Core.Bool.{Bool, true, false, cond, not, _&&_, and-false, false≢true}
-use mathlib.Core.List.{List, [], _∷_, _++_, map, map-map}
+use mathlib.Core.List.{List, [], _∷_, _++_, map, map-append, map-map}
 use Prim.Native.Nat.{ℕ, zero, suc, _+_, _-_, _≤_, _<_, zero-le}
 use native.Mathlib.Nat.{add-zero, sub-zero}
 use native.Mathlib.Omega.{arith}
@@ -12,11 +12,14 @@ use borrow.Author.Tests.{eqb-true, eqb-false, eq-eqb, ne-eqb, ltb-false, le-ltb,
 use Rattle.table.specs.Members.{has}
 use Rattle.table.specs.Lines.{Line}
 use Rattle.table.proofs.Tables.{miss, hit, neg′, both, neither, and-both, or-both, clear, unapplied}
-use Rattle.table.proofs.Flags.{has-none, last-none, last-snoc, none-set, flags-more, unset, unset-all, unset-set, unset-none}
+use Rattle.table.proofs.Elements.{repeat-at}
+use Rattle.table.proofs.Flags.{has-none, last-none, last-snoc, flags-more, unset, unset-all, unset-set, unset-none}
 use Rattle.plan.specs.Records.{recordAt, recordCount, periodIn, firstIn, nextIn, domainAt, numberAt}
 use Rattle.plan.specs.Chain.{linkTable, noNumber, unlisted, recordTable, linkOf, link, faultAt, fault, goesOn, walk, chainOf, domainsAt, WalkEnds}
+use Rattle.plan.specs.Value.{withDomain}
 use Rattle.plan.specs.declared.value.Domain.{Domain}
-use Rattle.plan.proofs.Laws.Holding.{Fine, numbers}
+use Rattle.plan.specs.declared.value.Plan.{Plan}
+use Rattle.plan.proofs.Laws.Holding.{Fine, Holds, holds-more, numbers}
 
 -- a domain number that is in range
 pub number-fits : (n : ℕ) → noNumber n ≡ false → (1 ≤ n) × (n ≤ 16)
@@ -78,6 +81,14 @@ module _ (s : List ℕ) where
   -- the numbers met are those of the domains taken
   pub numbers-met : (chain : List ℕ) → numbers (domainsAt s chain) ≡ map (numberAt s) chain
   numbers-met chain = map-map (λ (d : Domain). d .number) (domainAt s) chain
+
+  -- a plan that holds the domains of the records taken holds one record's more
+  pub held-more : {p : Plan} (chain : List ℕ) (i : ℕ) → Holds (periodIn s) (domainsAt s chain) p → Taken s chain i
+      → Holds (periodIn s) (domainsAt s (chain ++ (i ∷ []))) (withDomain p (domainAt s i))
+  held-more {p} chain i h t =
+      let unmet : has (numberAt s i) (numbers (domainsAt s chain)) ≡ false = ap (has (numberAt s i)) (numbers-met chain) ∙ t .unmet in
+      subst (λ (ds : List Domain). Holds (periodIn s) ds (withDomain p (domainAt s i))) (sym (map-append (domainAt s) chain (i ∷ [])))
+      (holds-more h (domainAt s i) (t .fine) unmet)
 
   module _ (chain : List ℕ) where
     -- the refusal that the link draws
@@ -173,4 +184,4 @@ ends-from s short (suc n) chain seen long count all =
 
 pub walk-ends : WalkEnds
 unfolding chainOf
-walk-ends s short = ends-from s short 64 [] (replicate 64 false) refl (unset-all 64) (λ k. none-set 64 k ∙ sym (has-none (k + 0)))
+walk-ends s short = ends-from s short 64 [] (replicate 64 false) refl (unset-all 64) (λ k. repeat-at 64 k false ∙ sym (has-none (k + 0)))

@@ -2,29 +2,27 @@
 -- Assumes nothing.
 use mathlib.Core.Path.{_≡_, sym, ap, subst, _∙_}
 use mathlib.Core.Bool.{true, false, not}
-use mathlib.Core.List.{List, [], _∷_, _++_, map-append}
+use mathlib.Core.List.{List, [], _∷_, _++_}
 use Prim.Native.Nat.{ℕ, _≤_, _<_}
 use native.Mathlib.Omega.{arith}
 use lib.ListN.{length}
 use lib.Dec.{eqb, ltb}
 use borrow.Author.Tests.{eqb-true, eq-eqb, ne-eqb, lt-ltb, le-ltb, ltb-false, not-false}
 use Rattle.table.specs.Sums.{sum}
-use Rattle.table.specs.Members.{has}
 use Rattle.table.specs.Lines.{firstOf}
 use Rattle.table.proofs.Tables.{miss, hit, neg, neg′, clear, tells-itself}
 use Rattle.table.proofs.Searches.{some-all}
 use Rattle.plan.specs.Value.{reservedOf, Sized, noPeriod, noDomains, planOf, outOfRange, reserved, planRefusal, refusal}
-use Rattle.plan.specs.Records.{periodIn, domainAt}
+use Rattle.plan.specs.Records.{periodIn}
 use Rattle.plan.specs.Chain.{link, fault, goesOn, chainOf, domainsAt, domainsIn, walkedOf}
 use Rattle.plan.specs.Reading.{headTable, refusedReading, acceptedReading, readPlan}
 use Rattle.plan.specs.RoundTrip.{ReadIsAccepted}
-use Rattle.plan.specs.declared.value.Domain.{Domain}
 use Rattle.plan.specs.declared.chain.Walked.{Walked}
 use Rattle.plan.specs.declared.reading.Reading.{Reading}
 use Rattle.plan.proofs.Laws.Values.{accept}
 use Rattle.plan.proofs.Laws.Heads.{Whole, length-fits}
-use Rattle.plan.proofs.Laws.Holding.{Holds, holds-none, holds-more, with-none, numbers}
-use Rattle.plan.proofs.Laws.Links.{goes, numbers-met, walk-keeps}
+use Rattle.plan.proofs.Laws.Holding.{Holds, holds-none, with-none}
+use Rattle.plan.proofs.Laws.Links.{goes, held-more, walk-keeps}
 
 module _ (s : List ℕ) where
   -- the plan of a list of records of the file holds their domains
@@ -33,12 +31,8 @@ module _ (s : List ℕ) where
 
   one-more : (chain : List ℕ) → goesOn s chain ≡ true → Held chain → Held (chain ++ (link s chain ∷ []))
   one-more chain e h =
-      let t = goes s chain e .1 in
-      let d = domainAt s (link s chain) in
-      let unmet : has (d .number) (numbers (domainsAt s chain)) ≡ false = ap (has (d .number)) (numbers-met s chain) ∙ t .unmet in
-      let more = holds-more h d (t .fine) unmet in
-      subst (λ (ds : List Domain). Holds (periodIn s) ds (planOf (periodIn s) ds)) (sym (map-append (domainAt s) chain (link s chain ∷ [])))
-      (subst (Holds (periodIn s) (domainsAt s chain ++ (d ∷ []))) (more .is) more)
+      let more = held-more s chain (link s chain) h (goes s chain e .1) in
+      subst (Holds (periodIn s) (domainsAt s (chain ++ (link s chain ∷ [])))) (more .is) more
 
   -- so does the plan of its chain
   pub chain-held : Held (chainOf s)

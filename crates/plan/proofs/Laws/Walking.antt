@@ -1,8 +1,8 @@
 -- The invariant of the loop that follows a chain, and what it gives at each way out.
 -- Assumes nothing.
-use mathlib.Core.Path.{_≡_, refl, sym, ap, ap₂, subst, _∙_}
+use mathlib.Core.Path.{_≡_, refl, sym, ap, ap₂, _∙_}
 use mathlib.Core.Bool.{Bool, true, false, cond}
-use mathlib.Core.List.{List, [], _∷_, _++_, map, map-append}
+use mathlib.Core.List.{List, [], _∷_, _++_, map}
 use Prim.Native.Nat.{ℕ, suc, _+_, _-_, _/_, _≤_, _<_}
 use native.Mathlib.Nat.{add-zero}
 use native.Mathlib.Omega.{arith}
@@ -10,15 +10,16 @@ use lib.ListN.{length, getD, set, replicate, length-set}
 use lib.Dec.{leb}
 use Rattle.table.specs.Members.{has}
 use Rattle.table.specs.Lines.{firstOf}
-use Rattle.table.proofs.Flags.{has-none, none-set, unset, unset-all, unset-set}
+use Rattle.table.proofs.Elements.{repeat-at}
+use Rattle.table.proofs.Flags.{has-none, unset, unset-all, unset-set}
 use Rattle.plan.specs.Value.{noDomains, withDomain, planOf}
 use Rattle.plan.specs.Records.{recordAt, periodIn, firstIn, nextIn, domainIn, domainAt, numberAt}
 use Rattle.plan.specs.Chain.{noNumber, linkTable, recordTable, link, faultAt, fault, goesOn, walk, chainOf, domainsAt, walkedOf}
 use Rattle.plan.specs.declared.value.Domain.{Domain}
 use Rattle.plan.specs.declared.value.Plan.{Plan}
 use Rattle.plan.specs.declared.chain.Walked.{Walked}
-use Rattle.plan.proofs.Laws.Holding.{Holds, holds-none, holds-more, numbers}
-use Rattle.plan.proofs.Laws.Links.{Taken, taken, number-fits, link-first, link-after, numbers-met, fault-end, fault-at, go-on, stop-end, stop-fault, walk-stops, walk-goes, seen-more, seen-not}
+use Rattle.plan.proofs.Laws.Holding.{Holds, holds-none}
+use Rattle.plan.proofs.Laws.Links.{Taken, taken, held-more, number-fits, link-first, link-after, numbers-met, fault-end, fault-at, go-on, stop-end, stop-fault, walk-stops, walk-goes, seen-more, seen-not}
 
 -- After some records: those taken, with what is left to walk; i is the link to follow.
 pub record Walking (s : List ℕ) (plan : Plan) (seen : List Bool) (i : ℕ) : Type 0 where
@@ -39,7 +40,7 @@ starts s i e h =
       here = e ∙ sym (link-first s);
       index = h;
       flags = refl;
-      marked = λ k. none-set 64 k ∙ sym (has-none (k + 0));
+      marked = λ k. repeat-at 64 k false ∙ sym (has-none (k + 0));
       held = holds-none (periodIn s);
     }
 
@@ -111,8 +112,6 @@ module _ {s : List ℕ} {plan : Plan} {seen : List Bool} {i : ℕ} (v : Walking 
       onward short d to de te small =
           let low : i < length seen = omega (arith, took .inside, v .flags) in
           let goes : goesOn s (v .chain) ≡ true = go-on s (v .chain) linked (sym fault-is ∙ none) in
-          let unmet : has (domainAt s i .number) (numbers (domainsAt s (v .chain))) ≡ false = ap (has (numberAt s i)) (numbers-met s (v .chain)) ∙ took .unmet in
-          let grown : domainsAt s (v .chain) ++ (domainAt s i ∷ []) ≡ domainsAt s (v .chain ++ (i ∷ [])) = sym (map-append (domainAt s) (v .chain) (i ∷ [])) in
           rw de
           (record {
             chain = v .chain ++ (i ∷ []);
@@ -124,5 +123,5 @@ module _ {s : List ℕ} {plan : Plan} {seen : List Bool} {i : ℕ} (v : Walking 
             index = small;
             flags = length-set seen i true ∙ v .flags;
             marked = seen-more seen (v .chain) i low (v .marked);
-            held = subst (λ (ds : List Domain). Holds (periodIn s) ds (withDomain plan (domainAt s i))) grown (holds-more (v .held) (domainAt s i) (took .fine) unmet);
+            held = held-more s (v .chain) i (v .held) took;
           })
