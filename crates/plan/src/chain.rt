@@ -9,7 +9,7 @@ ghost use Prim.Native.Nat.{_-_, _/_, _≤_};
 ghost use lib.ListN.{length, getD};
 ghost use Rattle.table.specs.Lines.{firstOf};
 ghost use Rattle.plan.specs.Records.{recordAt};
-ghost use Rattle.plan.specs.Chain.{noNumber, unlisted, linkTable, recordTable, walkedOf};
+ghost use Rattle.plan.specs.Chain.{unlisted, linkTable, recordTable, walkedOf};
 
 // What following the chain came to: the refusal that ended it and the index it was met at, or 0 and 0 at the chain's
 // end; and the plan of the domains taken.
@@ -17,13 +17,6 @@ pub struct Walked {
     pub refused: u8,
     pub place: u16,
     pub plan: Plan,
-}
-
-// Is it the number of no domain?
-fn no_number(n: u8) -> bool
-    ensures { λ r. ⌜ r ≡ noNumber n ⌝ }
-{
-    n == 0 || 16 < n
 }
 
 // Is an unlisted byte of a domain record not zero?
@@ -39,8 +32,8 @@ fn record_refusal(b: &[u8], period: u16, planned: [bool; 16]) -> u8
     requires { ⌜ length (now b) ≡ 16 ⌝ }
     ensures { λ r. ⌜ r ≡ firstOf (recordTable period (getD planned (getD (now (b .entry)) 2 0 - 1) false) (now (b .entry))) 0 ⌝ }
 {
-    let number = b[2];
-    if no_number(number) {
+    let number = records::wide(b[2]);
+    if value::is_outside(16, number) {
         return 6;
     }
     let at = (number - 1) as usize;

@@ -29,7 +29,7 @@ fn head_refusal(file: &[u8]) -> u8
         return 1;
     }
     let period = records::u16_at(file, 0);
-    if value::no_period(period) {
+    if value::is_outside(4096, period) {
         return 2;
     }
     if records::all_zero(&file[4..16]) {

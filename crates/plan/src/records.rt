@@ -5,7 +5,8 @@ ghost use Prim.Native.Nat.{_+_, _*_, _<_, _≤_};
 ghost use lib.ListN.{length};
 ghost use Rattle.plan.specs.Records.{u16At, zeros, recordAt, domainIn, headRecord, domainRecord};
 
-fn wide(x: u8) -> u16
+// A byte as a number of two bytes.
+pub(crate) fn wide(x: u8) -> u16
     ensures { λ r. ⌜ (r ≡ x) × (r < 256) ⌝ }
 {
     x as u16

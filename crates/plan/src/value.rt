@@ -4,7 +4,7 @@ ghost use mathlib.Core.Bool.{cond};
 ghost use Prim.Native.Nat.{_≤_};
 ghost use lib.Dec.{ltb};
 ghost use Rattle.table.specs.Ranges.{someBelow, lowest};
-ghost use Rattle.plan.specs.Value.{noPeriod, above, outOfRange, planRefusal, noDomains, withDomain};
+ghost use Rattle.plan.specs.Value.{outside, above, outOfRange, planRefusal, noDomains, withDomain};
 
 // A plan: the period, and of each domain number n at index n - 1 whether it is planned, its reservation Q, reclaim cap R
 // and writeback cap W.
@@ -35,7 +35,7 @@ pub fn check(p: Plan) -> Refusal
     ensures { λ r. ⌜ r ≡ planRefusal p ⌝ }
 {
     let period = p.period;
-    if no_period(period) {
+    if is_outside(4096, period) {
         return Refusal {
             refused: 2,
             place: 0,
@@ -61,11 +61,11 @@ pub fn check(p: Plan) -> Refusal
     }
 }
 
-// Is the period out of its range?
-pub(crate) fn no_period(period: u16) -> bool
-    ensures { λ r. ⌜ r ≡ noPeriod period ⌝ }
+// Is a number 0 or above a bound?
+pub(crate) fn is_outside(most: u16, n: u16) -> bool
+    ensures { λ r. ⌜ r ≡ outside most n ⌝ }
 {
-    period == 0 || 4096 < period
+    n == 0 || most < n
 }
 
 // Is one of a domain's three numbers above what they may be at most?

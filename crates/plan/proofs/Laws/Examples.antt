@@ -3,12 +3,12 @@
 use mathlib.Core.Path.{refl}
 use Rattle.table.specs.Sums.{sum}
 use Rattle.table.specs.Members.{has, lastOf}
-use Rattle.plan.specs.Value.{withAll, noPeriod, above}
+use Rattle.plan.specs.Value.{withAll, outside, above}
 use Rattle.plan.specs.Records.{zeros}
-use Rattle.plan.specs.Chain.{noNumber, unlisted, linkOf, faultAt, fault, goesOn, walk, chainOf}
+use Rattle.plan.specs.Chain.{unlisted, linkOf, faultAt, fault, goesOn, walk, chainOf}
 use Rattle.plan.specs.Reading.{noLength, readPlan}
 use Rattle.plan.specs.Cases.{Starred}
 
 pub starred : Starred
-unfolding sum has lastOf withAll noPeriod above zeros noNumber unlisted linkOf faultAt fault goesOn walk chainOf noLength readPlan
+unfolding sum has lastOf withAll outside above zeros unlisted linkOf faultAt fault goesOn walk chainOf noLength readPlan
 starred = refl

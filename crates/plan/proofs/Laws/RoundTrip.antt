@@ -28,7 +28,7 @@ use Rattle.plan.specs.declared.value.Plan.{Plan}
 use Rattle.plan.specs.declared.value.Refusal.{Refusal}
 use Rattle.plan.specs.declared.reading.Reading.{Reading}
 use Rattle.plan.proofs.Laws.Bytes.{two}
-use Rattle.plan.proofs.Laws.Values.{above-fits, fits-period, accepted}
+use Rattle.plan.proofs.Laws.Values.{above-fits, not-outside, accepted}
 use Rattle.plan.proofs.Laws.Heads.{Whole, fits-length}
 use Rattle.plan.proofs.Laws.Holding.{Fine, numbers}
 use Rattle.plan.proofs.Laws.Links.{Taken, untaken, link-first, link-after, numbers-met, fault-end, go-on, stop-end, walk-stops, walk-goes}
@@ -90,7 +90,7 @@ module _ (P : ℕ) (ds : List Domain) (behind : List ℕ) (one : 1 ≤ P) (small
   unfolding zeros
   head-none =
       unapplied (headTable t) 0
-      (fits-length (length t) w, (ap noPeriod period-back ∙ fits-period P one small, (ap (λ (l : List ℕ). not (zeros (part l 4 12))) starts, tt)))
+      (fits-length (length t) w, (ap noPeriod period-back ∙ not-outside 4096 P one small, (ap (λ (l : List ℕ). not (zeros (part l 4 12))) starts, tt)))
 
   -- the link after record k, and its domain
   link-at : (k : ℕ) → k ≤ n → link t (indices k) ≡ nextIndex n k
