@@ -1,6 +1,7 @@
 -- Laws of tables: a line that does not apply, one that does, and what a table without an answer tells of its tests.
 -- Assumes nothing.
 use mathlib.Core.Path.{_≡_, refl, sym, ap, subst, _∙_}
+use mathlib.Core.Logic.{_≢_}
 use mathlib.Core.Bool.{Bool, true, false, cond, not, _&&_, _||_, false≢true}
 use mathlib.Core.List.{List, [], _∷_}
 use Prim.Native.Nat.{ℕ, _≤_, _<_}
@@ -83,3 +84,31 @@ clear n (l ∷ ls) none e t =
 pub unapplied : {A : Type 0} (ls : List (Line A)) (none : A) → Clear ls → firstOf ls none ≡ none
 unapplied [] none c = refl
 unapplied (l ∷ ls) none c = miss (l .0) (l .1) (firstOf ls none) (c .0) ∙ unapplied ls none (c .1)
+
+-- a table that goes on in another: where it tells a number that number is told, and where it tells 0 the other's is
+told-then : (b : Bool) (x y z : ℕ) → (cond b x y ≡ 0 → ⊥) → ((y ≡ 0 → ⊥) → z ≡ y) → cond b x z ≡ cond b x y
+told-then true x y z h k = refl
+told-then false x y z h k = k h
+
+pub first-told : (ls : List (Line ℕ)) (next : ℕ) → (firstOf ls 0 ≡ 0 → ⊥) → firstOf ls next ≡ firstOf ls 0
+first-told [] next h = absurd (h refl)
+first-told (l ∷ ls) next h = told-then (l .0) (l .1) (firstOf ls 0) (firstOf ls next) h (first-told ls next)
+
+pub first-next : (ls : List (Line ℕ)) (next : ℕ) → firstOf ls 0 ≡ 0 → T (tells (λ (n : ℕ). n) ls) → firstOf ls next ≡ next
+first-next ls next e t = unapplied ls next (clear (λ (n : ℕ). n) ls 0 e t)
+
+-- No line answers n.
+abbrev pub lacks : ℕ → List (Line ℕ) → Bool
+lacks n [] = true
+lacks n (l ∷ ls) = not (eqb (l .1) n) && lacks n ls
+
+other : (b : Bool) (n x y : ℕ) → T (not (eqb x n)) → y ≢ n → cond b x y ≢ n
+other true n x y t h e = subst (λ (c : Bool). T (not c)) (eq-eqb x n e) t
+other false n x y t h e = h e
+
+-- a table of which no line answers n does not answer n
+pub never : (n : ℕ) (ls : List (Line ℕ)) (none : ℕ) → T (lacks n ls) → none ≢ n → firstOf ls none ≢ n
+never n [] none t h = h
+never n (l ∷ ls) none t h =
+    let here = not (eqb (l .1) n) in
+    other (l .0) n (l .1) (firstOf ls none) (and-left here (lacks n ls) t) (never n ls none (and-right here (lacks n ls) t) h)
