@@ -1,0 +1,125 @@
+-- Laws of the calls' steps, one for each case: the grant, the end of a slot, and what a call answers.
+-- Assumes nothing.
+use mathlib.Core.Path.{_≡_, refl, ap, _∙_, sym}
+use mathlib.Core.Logic.{_≢_}
+use mathlib.Core.Bool.{Bool, true, false, cond}
+use mathlib.Core.List.{List}
+use Prim.Native.Nat.{ℕ, _+_, _-_, _<_}
+use native.Mathlib.Decide.{ℕ-discrete}
+use native.Mathlib.Omega.{arith}
+use lib.Dec.{eqb, ltb}
+use lib.ListN.{length}
+use borrow.Author.Tests.{eq-eqb, ne-eqb, lt-ltb, le-ltb}
+use Rattle.table.specs.Sums.{nth}
+use Rattle.table.proofs.Tables.{miss, hit}
+use Rattle.regulator.specs.State.{begun, yielding}
+use Rattle.regulator.specs.Turn.{granted, verdicts}
+use Rattle.regulator.specs.Grant.{onClaim, onStock, onNeither, domainGrant, grant, onward}
+use Rattle.regulator.specs.Close.{countsOf, plain, ended}
+use Rattle.regulator.specs.Refusals.{slotRefusal, yieldRefusal}
+use Rattle.regulator.specs.Calls.{decided, slotOf, verdictsIn, yieldOf}
+use Rattle.regulator.specs.declared.state.State.{State}
+use Rattle.regulator.specs.declared.close.Answer.{Answer}
+
+-- the grant: of nobody, of best effort, of the domain at index j
+module _ (s : State) (o : List ℕ) where
+  pub grant-none : grant s o 17 ≡ onNeither s (s .idle + 1) (s .best)
+  unfolding grant
+  grant-none = refl
+
+  pub grant-best : grant s o 0 ≡ onNeither s (s .idle) (s .best + 1)
+  unfolding grant
+  grant-best = refl
+
+  pub grant-domain : (j : ℕ) → j < 16 → grant s o (j + 1) ≡ domainGrant s j (eqb (nth o (j + 1)) 2)
+  unfolding grant
+  grant-domain j h =
+      let q : j + 1 - 1 ≡ j = omega arith in
+      miss _ _ _ (ne-eqb (j + 1) 17 (λ z. omega arith))
+      ∙ miss _ _ _ (ne-eqb (j + 1) 0 (λ z. omega arith))
+      ∙ ap (λ (i : ℕ). domainGrant s i (eqb (nth o (j + 1)) 2)) q
+
+pub grant-claim : (s : State) (j : ℕ) (w : Bool) → 0 < nth (s .claim) j → domainGrant s j w ≡ onClaim s j w
+unfolding domainGrant
+grant-claim s j w h = hit _ _ _ (lt-ltb 0 (nth (s .claim) j) h)
+
+pub grant-stock : (s : State) (j : ℕ) (w : Bool) → nth (s .claim) j ≡ 0 → domainGrant s j w ≡ onStock s j w
+unfolding domainGrant
+grant-stock s j w h = miss _ _ _ (le-ltb 0 (nth (s .claim) j) (omega arith))
+
+-- a grant leaves T and the closed periods
+pub grant-time : (s : State) (o : List ℕ) (n : ℕ) → (grant s o n .decided ≡ s .decided) × (grant s o n .closed ≡ s .closed)
+unfolding grant domainGrant
+grant-time s o n = go (eqb n 17) (eqb n 0) (ltb 0 (nth (s .claim) (n - 1)))
+  where
+    w : Bool
+    w = eqb (nth o n) 2
+
+    after-grant : Bool → Bool → Bool → State
+    after-grant a b c =
+        cond a (onNeither s (s .idle + 1) (s .best))
+        (cond b (onNeither s (s .idle) (s .best + 1))
+        (cond c (onClaim s (n - 1) w) (onStock s (n - 1) w)))
+
+    go : (a b c : Bool) → (after-grant a b c .decided ≡ s .decided) × (after-grant a b c .closed ≡ s .closed)
+    go true b c = (refl, refl)
+    go false true c = (refl, refl)
+    go false false true = (refl, refl)
+    go false false false = (refl, refl)
+
+-- the end of a slot
+module _ (s : State) where
+  pub ended-open : s .decided ≢ s .plan .period → ended s ≡ plain 0 s
+  unfolding ended
+  ended-open h = miss _ _ _ (ne-eqb (s .decided) (s .plan .period) h)
+
+  pub ended-complete : s .decided ≡ s .plan .period
+      → ended s ≡ record { refused = 0; state = begun (s .plan) (s .closed + 1) (s .turn); complete = true; counts = countsOf s }
+  unfolding ended
+  ended-complete h = hit _ _ _ (eq-eqb (s .decided) (s .plan .period) h)
+
+  pub ended-taken : ended s .refused ≡ 0
+  ended-taken = go (ℕ-discrete (s .decided) (s .plan .period))
+    where
+      go : Dec (s .decided ≡ s .plan .period) → ended s .refused ≡ 0
+      go (yes q) = ap (λ (a : Answer). a .refused) (ended-complete q)
+      go (no q) = ap (λ (a : Answer). a .refused) (ended-open q)
+
+-- a slot call that is refused, and one that is not
+module _ (s : State) (o : List ℕ) where
+  pub slot-refused : (room : ℕ) → slotRefusal s o room ≢ 0 → slotOf s o room ≡ plain (slotRefusal s o room) s
+  unfolding slotOf
+  slot-refused room h = miss _ _ _ (ne-eqb (slotRefusal s o room) 0 h)
+
+  pub slot-decided : (room : ℕ) → slotRefusal s o room ≡ 0 → slotOf s o room ≡ ended (onward (grant s o (granted s o)) (granted s o))
+  unfolding slotOf decided
+  slot-decided room h = hit _ _ _ (eq-eqb (slotRefusal s o room) 0 h)
+
+  pub slot-number : (room : ℕ) → slotOf s o room .refused ≡ slotRefusal s o room
+  slot-number room = go (ℕ-discrete (slotRefusal s o room) 0)
+    where
+      go : Dec (slotRefusal s o room ≡ 0) → slotOf s o room .refused ≡ slotRefusal s o room
+      go (yes q) = ap (λ (a : Answer). a .refused) (slot-decided room q) ∙ ended-taken _ ∙ sym q
+      go (no q) = ap (λ (a : Answer). a .refused) (slot-refused room q)
+
+  pub shown-refused : (b : List ℕ) → slotRefusal s o (length b) ≢ 0 → verdictsIn s o b ≡ b
+  unfolding verdictsIn
+  shown-refused b h = miss _ _ _ (ne-eqb (slotRefusal s o (length b)) 0 h)
+
+  pub shown-decided : (b : List ℕ) → slotRefusal s o (length b) ≡ 0 → verdictsIn s o b ≡ verdicts s o
+  unfolding verdictsIn
+  shown-decided b h = hit _ _ _ (eq-eqb (slotRefusal s o (length b)) 0 h)
+
+-- a yield that is refused, and one that is not
+module _ (s : State) (d k : ℕ) where
+  pub yield-number : yieldOf s d k .refused ≡ yieldRefusal s d k
+  unfolding yieldOf
+  yield-number = refl
+
+  pub yield-refused : yieldRefusal s d k ≢ 0 → yieldOf s d k ≡ record { refused = yieldRefusal s d k; state = s }
+  unfolding yieldOf
+  yield-refused h = λ i. record { refused = yieldRefusal s d k; state = miss _ (yielding s (d - 1) k) s (ne-eqb (yieldRefusal s d k) 0 h) i }
+
+  pub yield-given : yieldRefusal s d k ≡ 0 → yieldOf s d k ≡ record { refused = 0; state = yielding s (d - 1) k }
+  unfolding yieldOf
+  yield-given h = λ i. record { refused = h i; state = hit _ (yielding s (d - 1) k) s (eq-eqb (yieldRefusal s d k) 0 h) i }

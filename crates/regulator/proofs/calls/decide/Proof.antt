@@ -1,0 +1,93 @@
+-- `regulator::calls::decide` meets its contract.
+-- Assumes nothing.
+use mathlib.Core.Path.{sym, ap, subst, _∙_}
+use denote.Ref.{now}
+use Prim.Native.Nat.{ℕ, _≤_}
+use native.Mathlib.Omega.{arith}
+use lib.ListN.{length}
+use Rattle.regulator.specs.Grant.{grant, onward}
+use Rattle.regulator.specs.Close.{ended}
+use Rattle.regulator.specs.Calls.{decided}
+use Rattle.regulator.specs.declared.state.State.{State}
+use Rattle.regulator.proofs.Laws.Adding.{Adds, adds}
+use Rattle.regulator.proofs.Laws.Refusing.{SlotTaken, slot-taken}
+use Rattle.regulator.proofs.Laws.Ruling.{Granted, granted-most, granted-to, stock-there}
+use Rattle.regulator.proofs.Laws.Deciding.{grant-time}
+use borrow.Author.Needs.{needs}
+use Rattle.regulator.proofs.calls.decide.Statement.{statement}
+use Rattle.regulator.proofs.calls.decide.Tie as tie
+
+tell-verdicts-requires : tie.Need-tell-verdicts-requires
+tell-verdicts-requires c κs = search needs
+
+-- what the call was found to be
+taken : (c : tie.Start) → SlotTaken (c .args .s) (now (c .args .offers)) (length (now (c .args .verdicts)))
+taken c = slot-taken (c .args .s) (now (c .args .offers)) (length (now (c .args .verdicts))) (search needs)
+
+sound : (c : tie.Start) → Adds (c .args .s)
+sound c = adds (c .args .s) (taken c .adds)
+
+most : (c : tie.After-tell-verdicts) → c .tell-verdicts .result ≤ 17
+most c =
+    let a = c .before .before .before .before in
+    subst (λ (n : ℕ). n ≤ 17) (sym (c .tell-verdicts .ensures .0)) (granted-most (a .args .s) (now (a .args .offers)) (sound a .balanced .turn))
+
+grant-number-requires : tie.Need-grant-number-requires
+grant-number-requires c κs =
+    let t = c .before .before in
+    let a = t .before .before .before .before in
+    let s = a .args .s in
+    let o = now (a .args .offers) in
+    let to = subst (Granted s o) (sym (t .tell-verdicts .ensures .0)) (granted-to s o (sound a .balanced .turn)) in
+    (most t, (taken a .offered .offers-long, (taken a .adds, stock-there s o (t .tell-verdicts .result) to)))
+
+go-on-requires : tie.Need-go-on-requires
+go-on-requires c κs =
+    let t = c .before .before .before in
+    let a = t .before .before .before .before in
+    let same = grant-time (a .args .s) (now (a .args .offers)) (t .tell-verdicts .result) .0 in
+    let e = ap (λ (u : State). u .decided) (c .grant-number .ensures) in
+    (most t, omega (arith, same, e, sound a .below, sound a .balanced .plan .small))
+
+full : (c : tie.Start) → c .args .s .closed ≤ 4294967295
+full c = search needs
+
+end-requires : tie.Need-end-requires
+end-requires c κs =
+    let g = c .before in
+    let t = g .before .before .before in
+    let a = t .before .before .before .before in
+    let same = grant-time (a .args .s) (now (a .args .offers)) (t .tell-verdicts .result) .1 in
+    let e = ap (λ (u : State). u .closed) (c .go-on .ensures) in
+    let f = ap (λ (u : State). u .closed) (g .grant-number .ensures) in
+    omega (arith, same, e, f, taken a .unfilled, full a)
+
+same-length : tie.Need-same-length
+same-length c = search needs
+
+returns : tie.Need-returns
+unfolding decided
+returns c =
+    let g = c .before .before in
+    let t = g .before .before .before in
+    let a = t .before .before .before .before in
+    let s = a .args .s in
+    let o = now (a .args .offers) in
+    let n = t .tell-verdicts .ensures .0 in (
+      c .end .ensures
+          ∙ ap ended (c .before .go-on .ensures
+          ∙ ap (λ (u : State). onward u (t .tell-verdicts .result)) (g .grant-number .ensures)
+          ∙ ap (λ (m : ℕ). onward (grant s o m) m) n),
+      t .tell-verdicts .ensures .1,
+    )
+
+pub decide-spec : {M : Type 1} → statement M
+decide-spec =
+    tie.close
+    (tie.spec
+    tell-verdicts-requires
+    grant-number-requires
+    go-on-requires
+    end-requires
+    same-length
+    returns)

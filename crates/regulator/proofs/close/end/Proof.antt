@@ -1,0 +1,38 @@
+-- `regulator::close::end` meets its contract.
+-- Assumes nothing.
+use borrow.Author.Tests.{eq-eqb, ne-eqb}
+use Rattle.regulator.specs.Close.{ended}
+use borrow.Author.Needs.{needs}
+use Rattle.regulator.proofs.close.end.Statement.{statement}
+use Rattle.regulator.proofs.close.end.Tie as tie
+
+counts-of-requires : tie.Need-counts-of-requires
+counts-of-requires c κs = search needs
+
+add-begin : tie.Need-add-begin
+add-begin c = search needs
+
+begin-requires : tie.Need-begin-requires
+begin-requires c κs = search needs
+
+without-counts-requires : tie.Need-without-counts-requires
+without-counts-requires c κs = search needs
+
+returns : tie.Need-returns
+unfolding ended
+returns c = rw (eq-eqb _ _ (c .before .before .before .if1 .taken), c .begin .ensures, c .before .before .counts-of .ensures)
+
+returns-2 : tie.Need-returns-2
+unfolding ended
+returns-2 c = rw (ne-eqb _ _ (c .before .if1 .left)) (c .without-counts .ensures)
+
+pub end-spec : {M : Type 1} → statement M
+end-spec =
+    tie.close
+    (tie.spec
+    counts-of-requires
+    add-begin
+    begin-requires
+    without-counts-requires
+    returns
+    returns-2)

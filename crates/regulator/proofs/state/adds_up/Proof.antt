@@ -1,0 +1,50 @@
+-- `regulator::state::adds_up` meets its contract: what its callees tell, put into the five tests.
+-- Assumes nothing.
+use Rattle.regulator.specs.State.{addsUp}
+use borrow.Author.Needs.{needs}
+use Rattle.regulator.proofs.state.adds_up.Statement.{statement}
+use Rattle.regulator.proofs.state.adds_up.Tie as tie
+
+check-requires : tie.Need-check-requires
+check-requires c κs = search needs
+
+domains-add-up-requires : tie.Need-domains-add-up-requires
+domains-add-up-requires c κs = search needs
+
+total-requires : tie.Need-total-requires
+total-requires c κs = search needs
+
+total-requires-2 : tie.Need-total-requires-2
+total-requires-2 c κs = search needs
+
+total-requires-3 : tie.Need-total-requires-3
+total-requires-3 c κs = search needs
+
+sums-add-up-requires : tie.Need-sums-add-up-requires
+sums-add-up-requires c κs = search needs
+
+all-five-requires : tie.Need-all-five-requires
+all-five-requires c κs = search needs
+
+returns : tie.Need-returns
+unfolding addsUp
+returns c =
+    let b = c .before .before .before .before .before in
+    let d = b .before .before .before .before in
+    let total = b .before .before .before .total .ensures .0 in
+    let total2 = b .before .before .total2 .ensures .0 in
+    let total3 = b .before .total3 .ensures .0 in
+    rw (d .before .before .before .before .check .ensures, d .domains-add-up .ensures, b .sums-add-up .ensures, total, total2, total3) at (c .all-five .ensures)
+
+pub adds-up-spec : {M : Type 1} → statement M
+adds-up-spec =
+    tie.close
+    (tie.spec
+    check-requires
+    domains-add-up-requires
+    total-requires
+    total-requires-2
+    total-requires-3
+    sums-add-up-requires
+    all-five-requires
+    returns)

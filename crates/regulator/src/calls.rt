@@ -1,0 +1,128 @@
+// The calls: opening, slots and yields, for any state and any arguments.
+ghost use mathlib.Core.Path.{_≡_};
+ghost use Prim.Native.Nat.{_-_};
+ghost use lib.ListN.{length};
+ghost use Rattle.plan.specs.Value.{noDomains};
+ghost use Rattle.regulator.specs.State.{yielding};
+ghost use Rattle.regulator.specs.Turn.{granted as grantedIn, verdicts as verdictsOf};
+ghost use Rattle.regulator.specs.Refusals.{slotRefusal, yieldRefusal};
+ghost use Rattle.regulator.specs.Calls.{openPlan, decided, slotOf, verdictsIn, yieldOf};
+use super::close;
+use super::close::Answer;
+use super::grant;
+use super::refusals;
+use super::state;
+use super::state::State;
+use super::turn;
+use super::verdict;
+use plan::Plan;
+
+// What opening answers: 0 or the number of a refusal, its place, and the state.
+pub struct Opening {
+    pub refused: u8,
+    pub place: u16,
+    pub state: State,
+}
+
+// What a yield answers: 0 or the number of a refusal, and the state.
+pub struct Yielding {
+    pub refused: u8,
+    pub state: State,
+}
+
+// The plan of all zeros.
+fn no_plan() -> Plan
+    ensures { λ r. ⌜ r ≡ noDomains 0 ⌝ }
+{
+    Plan {
+        period: 0,
+        planned: [false; 16],
+        reservation: [0; 16],
+        reclaimcap: [0; 16],
+        writebackcap: [0; 16],
+    }
+}
+
+// Opens a plan.
+pub fn open(p: Plan) -> Opening
+    ensures { λ r. ⌜ r ≡ openPlan p ⌝ }
+{
+    let c = plan::check(p);
+    if c.refused == 0 {
+        let s = state::begin(p, 0, 0);
+        Opening {
+            refused: 0,
+            place: 0,
+            state: s,
+        }
+    } else {
+        let s = state::begin(no_plan(), 0, 0);
+        Opening {
+            refused: c.refused,
+            place: c.place,
+            state: s,
+        }
+    }
+}
+
+// The verdicts of a slot, to the lent buffer, and the number that is granted, or 17.
+fn tell_verdicts(s: State, offers: &[u8], verdicts: &mut [u8]) -> usize
+    requires { ⌜ slotRefusal s (now offers) (length (now verdicts)) ≡ 0 ⌝ }
+    ensures granted { λ r. ⌜ r ≡ grantedIn s (now (offers .entry)) ⌝ }
+    ensures shown { λ r. ⌜ now (verdicts .exit) ≡ verdictsOf s (now (offers .entry)) ⌝ }
+{
+    let blocked = verdict::is_blocked(s, offers);
+    verdict::rule(s, offers, blocked, verdicts);
+    let n = turn::pick(verdicts, s.turn);
+    turn::mark(verdicts, n);
+    n
+}
+
+// One slot, of a call that is not refused.
+pub(crate) fn decide(s: State, offers: &[u8], verdicts: &mut [u8]) -> Answer
+    requires { ⌜ slotRefusal s (now offers) (length (now verdicts)) ≡ 0 ⌝ }
+    ensures answer { λ r. ⌜ r ≡ decided s (now (offers .entry)) ⌝ }
+    ensures shown { λ r. ⌜ now (verdicts .exit) ≡ verdictsOf s (now (offers .entry)) ⌝ }
+{
+    let n = tell_verdicts(s, offers, verdicts);
+    let t = grant::grant_number(s, offers, n);
+    close::end(grant::go_on(t, n))
+}
+
+// One slot: the verdicts go to the lent buffer.
+pub fn slot(s: State, offers: &[u8], verdicts: &mut [u8]) -> Answer
+    ensures answer { λ r. ⌜ r ≡ slotOf s (now (offers .entry)) (length (now (verdicts .entry))) ⌝ }
+    ensures shown { λ r. ⌜ now (verdicts .exit) ≡ verdictsIn s (now (offers .entry)) (now (verdicts .entry)) ⌝ }
+{
+    let n = refusals::check_slot(s, offers, verdicts.len());
+    if n != 0 {
+        return close::without_counts(n, s);
+    }
+    decide(s, offers, verdicts)
+}
+
+// A yield that is not refused.
+pub(crate) fn give(s: State, domain: u64, k: u64) -> State
+    requires { ⌜ yieldRefusal s domain k ≡ 0 ⌝ }
+    ensures { λ r. ⌜ r ≡ yielding s (domain - 1) k ⌝ }
+{
+    state::move_claim(s, (domain - 1) as usize, k as u16)
+}
+
+// Moves k of a domain's claim to the stock.
+pub fn yield_claim(s: State, domain: u64, k: u64) -> Yielding
+    ensures { λ r. ⌜ r ≡ yieldOf s domain k ⌝ }
+{
+    let n = refusals::check_yield(s, domain, k);
+    if n != 0 {
+        return Yielding {
+            refused: n,
+            state: s,
+        };
+    }
+    let t = give(s, domain, k);
+    Yielding {
+        refused: 0,
+        state: t,
+    }
+}

@@ -1,0 +1,82 @@
+// The end of a slot: a period's counts, and the next period.
+ghost use mathlib.Core.Path.{_≡_};
+ghost use Prim.Native.Nat.{_<_};
+ghost use Rattle.regulator.specs.Close.{countsOf, plain, ended};
+use super::state;
+use super::state::State;
+
+// The counts of a period.
+pub struct Counts {
+    pub idle: u16,
+    pub best: u16,
+    pub reserved: [u16; 16],
+    pub reclaimed: [u16; 16],
+    pub yielded: [u16; 16],
+    pub writebacks: [u16; 16],
+}
+
+// What a slot call answers: 0 or the number of a refusal, the state, and, where the slot completed a period, its counts;
+// else they are zeros.
+pub struct Answer {
+    pub refused: u8,
+    pub state: State,
+    pub complete: bool,
+    pub counts: Counts,
+}
+
+fn counts_of(s: State) -> Counts
+    ensures { λ r. ⌜ r ≡ countsOf s ⌝ }
+{
+    let reserved = s.reserved;
+    let reclaimed = s.reclaimed;
+    let yielded = s.yielded;
+    let writebacks = s.writebacks;
+    Counts {
+        idle: s.idle,
+        best: s.best,
+        reserved,
+        reclaimed,
+        yielded,
+        writebacks,
+    }
+}
+
+// An answer without counts.
+pub(crate) fn without_counts(n: u8, s: State) -> Answer
+    ensures { λ r. ⌜ r ≡ plain n s ⌝ }
+{
+    let none = Counts {
+        idle: 0,
+        best: 0,
+        reserved: [0; 16],
+        reclaimed: [0; 16],
+        yielded: [0; 16],
+        writebacks: [0; 16],
+    };
+    Answer {
+        refused: n,
+        state: s,
+        complete: false,
+        counts: none,
+    }
+}
+
+// The answer of a decided slot.
+pub(crate) fn end(s: State) -> Answer
+    requires { ⌜ s .closed < 4294967295 ⌝ }
+    ensures { λ r. ⌜ r ≡ ended s ⌝ }
+{
+    let p = s.plan;
+    if s.decided == p.period {
+        let all = counts_of(s);
+        let next = state::begin(p, s.closed + 1, s.turn);
+        Answer {
+            refused: 0,
+            state: next,
+            complete: true,
+            counts: all,
+        }
+    } else {
+        without_counts(0, s)
+    }
+}

@@ -1,0 +1,24 @@
+// The regulator: the state of a period, one slot, the close of a period, and the calls.
+//
+// open(plan): the state that a plan starts with; or 2, 9 or 10 with its place.
+// slot(state, offers, verdicts): one slot decided, for any state, bytes and lengths; or 30, 34, 31, 32 or 33.
+// yield_claim(state, domain, k): claim moved to the stock, for any state and numbers; or 30, 34, 21, 22 or 23.
+//
+// Inside, calls::decide and calls::give are what slot and yield_claim do after their checks: they require what was checked.
+mod calls;
+mod close;
+mod grant;
+mod numbers;
+mod refusals;
+mod state;
+mod turn;
+mod verdict;
+
+pub use calls::Opening;
+pub use calls::Yielding;
+pub use calls::open;
+pub use calls::slot;
+pub use calls::yield_claim;
+pub use close::Answer;
+pub use close::Counts;
+pub use state::State;

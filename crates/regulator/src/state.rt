@@ -1,0 +1,158 @@
+// The state of a period: where it begins, whether it adds up, and what a yield moves.
+ghost use mathlib.Core.Path.{_≡_};
+ghost use mathlib.Core.Bool.{_&&_};
+ghost use Prim.Native.Nat.{_+_, _<_, _≤_};
+ghost use Rattle.table.specs.Sums.{nth};
+ghost use Rattle.table.specs.Ranges.{everyBelow};
+ghost use Rattle.regulator.specs.State.{begun, numbersAddUp, domainAddsUp, sumsAddUp, addsUp, yielding};
+use super::numbers;
+use plan::Plan;
+
+// The state of a period. Index n - 1 of the arrays is domain number n; decided is the number of slots decided, closed of
+// periods closed, best of best-effort passes.
+pub struct State {
+    pub plan: Plan,
+    pub decided: u16,
+    pub closed: u32,
+    pub idle: u16,
+    pub best: u16,
+    pub stock: u16,
+    pub turn: usize,
+    pub claim: [u16; 16],
+    pub reserved: [u16; 16],
+    pub reclaimed: [u16; 16],
+    pub yielded: [u16; 16],
+    pub writebacks: [u16; 16],
+}
+
+// A period begins.
+pub(crate) fn begin(p: Plan, closed: u32, turn: usize) -> State
+    ensures { λ r. ⌜ r ≡ begun p closed turn ⌝ }
+{
+    let claim = p.reservation;
+    State {
+        plan: p,
+        decided: 0,
+        closed,
+        idle: 0,
+        best: 0,
+        stock: 0,
+        turn,
+        claim,
+        reserved: [0; 16],
+        reclaimed: [0; 16],
+        yielded: [0; 16],
+        writebacks: [0; 16],
+    }
+}
+
+// Do the numbers of one domain add up?
+fn numbers_add_up(
+    claim: u16,
+    reserved: u16,
+    reclaimed: u16,
+    yielded: u16,
+    writebacks: u16,
+    q: u16,
+    r: u16,
+    w: u16,
+) -> bool
+    ensures { λ b. ⌜ b ≡ numbersAddUp claim reserved reclaimed yielded writebacks q r w ⌝ }
+{
+    claim as u32 + reserved as u32 + yielded as u32 == q as u32
+        && (reclaimed <= r
+            && (writebacks <= w && writebacks as u32 <= reserved as u32 + reclaimed as u32))
+}
+
+fn domains_add_up(s: State) -> bool
+    ensures { λ b. ⌜ b ≡ everyBelow (domainAddsUp s) 16 ⌝ }
+{
+    let p = s.plan;
+    let mut j = 0;
+    while j < 16 {
+        if numbers_add_up(
+            s.claim[j],
+            s.reserved[j],
+            s.reclaimed[j],
+            s.yielded[j],
+            s.writebacks[j],
+            p.reservation[j],
+            p.reclaimcap[j],
+            p.writebackcap[j],
+        ) {} else {
+            return false;
+        }
+        j += 1;
+    }
+    true
+}
+
+// Do the sums of a state add up, with those of its arrays given?
+fn sums_add_up(
+    stock: u16,
+    idle: u16,
+    best: u16,
+    decided: u16,
+    reserved: u32,
+    reclaimed: u32,
+    yielded: u32,
+) -> bool
+    requires { ⌜ (reserved ≤ 1048560) × (reclaimed ≤ 1048560) ⌝ }
+    ensures { λ b. ⌜ b ≡ sumsAddUp stock idle best decided reserved reclaimed yielded ⌝ }
+{
+    stock as u32 + reclaimed == yielded
+        && idle as u32 + best as u32 + reserved + reclaimed == decided as u32
+}
+
+fn all_five(a: bool, b: bool, c: bool, d: bool, e: bool) -> bool
+    ensures { λ r. ⌜ r ≡ (a && (b && (c && (d && e)))) ⌝ }
+{
+    a && (b && (c && (d && e)))
+}
+
+// Does a state add up?
+pub(crate) fn adds_up(s: State) -> bool
+    ensures { λ b. ⌜ b ≡ addsUp s ⌝ }
+{
+    let p = s.plan;
+    let refusal = plan::check(p);
+    let reserved = s.reserved;
+    let reclaimed = s.reclaimed;
+    let yielded = s.yielded;
+    let domains = domains_add_up(s);
+    let sums = sums_add_up(
+        s.stock,
+        s.idle,
+        s.best,
+        s.decided,
+        table::total(reserved),
+        table::total(reclaimed),
+        table::total(yielded),
+    );
+    all_five(
+        refusal.refused == 0,
+        s.decided < p.period,
+        s.turn <= 16,
+        domains,
+        sums,
+    )
+}
+
+// k of the claim at index j moves to the stock.
+pub(crate) fn move_claim(s: State, j: usize, k: u16) -> State
+    requires { ⌜ j < 16 ⌝ }
+    requires { ⌜ k ≤ nth (s .claim) j ⌝ }
+    requires { ⌜ s .stock + k < 65536 ⌝ }
+    requires { ⌜ nth (s .yielded) j + k < 65536 ⌝ }
+    ensures { λ r. ⌜ r ≡ yielding s j k ⌝ }
+{
+    let claim = s.claim;
+    let yielded = s.yielded;
+    let less = numbers::lower(claim, j, k);
+    let more = numbers::raise(yielded, j, k);
+    let mut t = s;
+    t.stock = s.stock + k;
+    t.claim = less;
+    t.yielded = more;
+    t
+}
