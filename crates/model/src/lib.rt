@@ -1,9 +1,25 @@
-// A second implementation of plans, made plain and slow to compare the library with: a plan is a period and flat words.
-// The words of domain n (1 to 16) stand at 4 * (n - 1): present (0 or 1), reservation Q, reclaim cap R, writeback cap W.
+// A second implementation of plans and of the regulator, made plain and slow to compare the library with, and the ledger.
+// A plan is a period and flat words: those of domain n (1 to 16) stand at 4 * (n - 1): present (0 or 1), reservation Q,
+// reclaim cap R, writeback cap W. A state, counts and the ledger's page are 153 words, whose places `cells` states.
+mod calls;
+mod cells;
 mod chain;
 mod layout;
+mod ledger;
 mod record;
+mod sums;
+mod verdict;
 mod words;
+
+pub use calls::open;
+pub use calls::slot;
+pub use calls::take_yield;
+pub use cells::WORDS;
+pub use ledger::Entry;
+pub use ledger::begin;
+pub use ledger::enter_slot;
+pub use ledger::enter_yield;
+pub use sums::adds_up;
 
 // What reading a file tells: number 0 where it is accepted; on a refusal the period and all words are 0.
 pub struct Answer {

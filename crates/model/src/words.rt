@@ -61,7 +61,7 @@ pub struct Totals {
     pub lowestbad: u32,
 }
 
-fn one_if(there: bool) -> u32
+pub fn one_if(there: bool) -> u32
     ensures { λ r. ⌜ r ≤ 1 ⌝ }
 {
     if there { 1 } else { 0 }

@@ -1,6 +1,6 @@
 // Bytes of files and lent buffers: put and filled.
 ghost use Prim.Native.Nat.{_<_};
-use super::draw;
+use trial_kit::draw;
 
 // How bytes are filled: any, mostly zero, or as records whose fields are small.
 pub const ANY: u32 = 0;
@@ -19,10 +19,6 @@ pub fn get(file: &[u8], at: usize) -> u8 {
     if at < file.len() { file[at] } else { 0 }
 }
 
-pub fn low(x: u32) -> u8 {
-    (x % 256) as u8
-}
-
 // Where a byte of a record stands.
 pub fn place(record: u32, offset: u32) -> usize
     ensures { λ r. ⌜ r < 1048576 ⌝ }
@@ -33,8 +29,8 @@ pub fn place(record: u32, offset: u32) -> usize
 // A number of two bytes, the low byte first.
 pub fn put_pair(file: &mut [u8], record: u32, offset: u32, value: u32) {
     let at = place(record, offset);
-    put(file, at, low(value));
-    put(file, at + 1, low(value / 256));
+    put(file, at, draw::low(value));
+    put(file, at + 1, draw::low(value / 256));
 }
 
 // A record of five numbers, each two bytes, and zeros.
@@ -53,18 +49,22 @@ pub fn put_record(file: &mut [u8], record: u32, a: u32, b: u32, q: u32, r: u32, 
 fn small_byte(drawn: u32, at: u32) -> u8 {
     let x = drawn / 256;
     match at % 16 {
-        0 | 4 | 6 | 8 => low(x % 8),
-        2 => if at < 16 { low(x % 8) } else { low(x % 18) },
-        _ => if x % 256 == 0 { low(drawn) } else { 0 },
+        0 | 4 | 6 | 8 => draw::low(x % 8),
+        2 => if at < 16 {
+            draw::low(x % 8)
+        } else {
+            draw::low(x % 18)
+        },
+        _ => if x % 256 == 0 { draw::low(drawn) } else { 0 },
     }
 }
 
 fn filling(seed: u32, style: u32, at: u32) -> u8 {
     let drawn = draw::draw(seed, std::num::wrapping_add_u32(at, 65536));
     match style {
-        0 => low(drawn),
+        0 => draw::low(drawn),
         1 => if drawn / 256 % 16 == 0 {
-            low(drawn) % 32
+            draw::low(drawn) % 32
         } else {
             0
         },

@@ -1,9 +1,9 @@
 // A plan laid into a file as a chain of records in any order.
 ghost use Prim.Native.Nat.{_≤_};
 use super::bytes;
-use super::draw;
-use super::values;
 use plan::Plan;
+use trial_kit::draw;
+use trial_kit::values;
 
 // What a file was laid with: its records, its period, how many domains are on the chain and the record of each.
 pub struct Chain {

@@ -1,29 +1,21 @@
 // The library and the model on one file, or on one plan held as a value and a lent buffer.
 use super::bytes;
-use super::values;
 use model::Answer;
 use model::Told;
 use plan::Plan;
 use plan::Reading;
 use plan::Writing;
+use trial_kit::tally::Verdict;
+use trial_kit::tally::both;
+use trial_kit::values;
 
 // The bytes of the longest file that is tried, and of the buffers that plans are written to.
 pub const LONGEST: u32 = 1040;
 
 pub const BUFFER: u32 = 320;
 
-// The refusal that the model tells, and whether the library does all as the model does.
-pub struct Verdict {
-    pub number: u32,
-    pub same: bool,
-}
-
 fn wide8(x: u8) -> u32 {
     x as u32
-}
-
-fn both(a: bool, b: bool) -> bool {
-    a && b
 }
 
 fn all3(a: bool, b: bool, c: bool) -> bool {

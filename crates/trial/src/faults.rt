@@ -2,7 +2,7 @@
 use super::bytes;
 use super::chain;
 use super::chain::Chain;
-use super::draw;
+use trial_kit::draw;
 
 // The faults by number: 8 of a link, then 5 of a domain number, 7 of a byte that has to be zero, 9 of Q, R and W.
 pub const LINKS: u32 = 0;
@@ -37,7 +37,7 @@ fn bad_number(fault: u32, other: u8, seed: u32) -> u8 {
         9 => 17,
         10 => 255,
         11 => other,
-        _ => bytes::low(draw::upto(seed, 703, 255)),
+        _ => draw::low(draw::upto(seed, 703, 255)),
     }
 }
 
@@ -75,7 +75,7 @@ pub fn damage(file: &mut [u8], c: Chain, record: u32, fault: u32, seed: u32) {
         return;
     }
     if fault < AMOUNTS {
-        let b = bytes::low(1 + draw::upto(seed, 704, 254));
+        let b = draw::low(1 + draw::upto(seed, 704, 254));
         bytes::put(file, bytes::place(record, unlisted_offset(fault)), b);
         return;
     }

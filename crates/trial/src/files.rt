@@ -4,11 +4,11 @@ use super::bytes;
 use super::chain;
 use super::chain::Chain;
 use super::compare;
-use super::draw;
 use super::faults;
 use super::stated;
-use super::values;
 use plan::Plan;
+use trial_kit::draw;
+use trial_kit::values;
 
 // A plan in so many records, those off the chain of any bytes.
 fn put_plan(file: &mut [u8], p: Plan, records: u32, seed: u32) -> Chain {
@@ -62,7 +62,7 @@ fn first_record(file: &mut [u8], case: u32, seed: u32) -> u32 {
     bytes::put(
         file,
         bytes::place(0, 4 + case % 12),
-        bytes::low(draw::draw(seed, 7)),
+        draw::low(draw::draw(seed, 7)),
     );
     bytes_of(c.records)
 }
@@ -117,7 +117,7 @@ fn one_byte(file: &mut [u8], case: u32, seed: u32) -> u32 {
     bytes::put(
         file,
         position(case, bytes) as usize,
-        bytes::low(draw::draw(seed, 7)),
+        draw::low(draw::draw(seed, 7)),
     );
     bytes
 }

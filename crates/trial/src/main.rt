@@ -1,18 +1,17 @@
 // Compares the library's plans with the model's on files and values that are fixed by seeds, and prints what was compared.
-use compare::Verdict;
-use tally::Tally;
+use trial_kit::draw;
+use trial_kit::tally;
+use trial_kit::tally::Tally;
+use trial_kit::tally::Verdict;
 
 mod bytes;
 mod chain;
 mod compare;
-mod draw;
 mod faults;
 mod files;
 mod plans;
 mod report;
 mod stated;
-mod tally;
-mod values;
 
 // The kinds below this number are of files, those from it on of plan values.
 const VALUES: u32 = 16;

@@ -1,77 +1,12 @@
 // The plan values of each kind, and the buffers lent for them.
 use super::compare;
-use super::draw;
-use super::values;
 use plan::Plan;
-
-// A value for a word: P, P + 1, 0, or any.
-fn wrong(seed: u32, salt: u32, period: u32) -> u32 {
-    match draw::upto(seed, salt, 3) {
-        0 => period,
-        1 => std::num::wrapping_add_u32(period, 1),
-        2 => 0,
-        _ => draw::upto(seed, std::num::wrapping_add_u32(salt, 1), 65535),
-    }
-}
-
-// One of Q, R and W of one domain put to such a value.
-fn damaged(p: Plan, seed: u32, salt: u32) -> Plan {
-    let which = draw::upto(seed, salt, 47);
-    let value = wrong(
-        seed,
-        std::num::wrapping_add_u32(salt, 1),
-        values::wide(p.period),
-    );
-    values::with_word(p, which / 3 * 4 + which % 3 + 1, value)
-}
-
-// A domain made absent, and one of its numbers put above zero.
-fn absent(p: Plan, seed: u32) -> Plan {
-    let k = draw::upto(seed, 20, 15) * 4;
-    let without = values::with_word(p, k, 0);
-    values::with_word(
-        without,
-        k + 1 + draw::upto(seed, 21, 2),
-        1 + draw::upto(seed, 22, 65534),
-    )
-}
-
-fn several(p: Plan, seed: u32) -> Plan {
-    let one = damaged(p, seed, 30);
-    let two = damaged(one, seed, 40);
-    if draw::upto(seed, 50, 1) == 0 {
-        return two;
-    }
-    let three = absent(two, seed);
-    if draw::upto(seed, 51, 3) == 0 {
-        periods(three, draw::draw(seed, 52), seed)
-    } else {
-        three
-    }
-}
-
-fn periods(p: Plan, case: u32, seed: u32) -> Plan {
-    match case % 6 {
-        0 => values::with_period(p, 0),
-        1 => values::with_period(p, 1),
-        2 => values::with_period(p, 4096),
-        3 => values::with_period(p, 4097),
-        4 => values::with_period(p, 65535),
-        _ => values::with_period(p, draw::upto(seed, 60, 65535)),
-    }
-}
+use trial_kit::plans;
+use trial_kit::values;
 
 // The plan of a case of the kinds 16 to 22; those of 16 and 22 are accepted.
 pub fn made(kind: u32, case: u32, seed: u32) -> Plan {
-    let good = values::drawn(seed, values::GOOD);
-    match kind {
-        17 => damaged(good, seed, 20),
-        18 => absent(good, seed),
-        19 => several(good, seed),
-        20 => values::summed(seed, case),
-        21 => periods(good, case, seed),
-        _ => good,
-    }
+    plans::made(std::num::wrapping_sub_u32(kind, 17), case, seed)
 }
 
 // The bytes that a plan needs, or 0 where it is refused.

@@ -1,15 +1,7 @@
 // The lines that are printed.
-use super::tally::Tally;
-use libc::STDOUT_FILENO;
-
-fn say(text: &[u8]) {
-    io::write_all(STDOUT_FILENO, text);
-}
-
-fn say_number(text: &[u8], x: u32) {
-    say(text);
-    io::print_decimal(STDOUT_FILENO, x as u64);
-}
+use trial_kit::report;
+use trial_kit::report::say;
+use trial_kit::tally::Tally;
 
 fn say_first_files(kind: u32) {
     match kind {
@@ -63,32 +55,21 @@ fn say_name(kind: u32) {
 
 pub fn kind_line(t: Tally, kind: u32) {
     say_name(kind);
-    say_number(b": compared ", t.compared);
-    say_number(b", accepted ", t.accepted);
-    say_number(b", refused ", t.refused);
-    say_number(b", differ ", t.differ);
-    say(b"\n");
-}
-
-fn told_line(t: Tally, number: u32) {
-    let k = (number % 64) as usize;
-    say_number(b"refusal ", number);
-    say_number(b": told ", t.told[k]);
-    say(b"\n");
+    report::counts_line(t);
 }
 
 fn told_lines(t: Tally) {
-    told_line(t, 1);
-    told_line(t, 2);
-    told_line(t, 3);
-    told_line(t, 4);
-    told_line(t, 5);
-    told_line(t, 6);
-    told_line(t, 7);
-    told_line(t, 8);
-    told_line(t, 9);
-    told_line(t, 10);
-    told_line(t, 51);
+    report::told_line(t, 1);
+    report::told_line(t, 2);
+    report::told_line(t, 3);
+    report::told_line(t, 4);
+    report::told_line(t, 5);
+    report::told_line(t, 6);
+    report::told_line(t, 7);
+    report::told_line(t, 8);
+    report::told_line(t, 9);
+    report::told_line(t, 10);
+    report::told_line(t, 51);
 }
 
 // The refusals, the total, and where something differed its first kind and case.
@@ -97,10 +78,8 @@ pub fn last_lines(t: Tally) {
     if t.alldiffer != 0 {
         say(b"first difference: ");
         say_name(t.firstkind);
-        say_number(b", case ", t.firstcase);
+        report::say_number(b", case ", t.firstcase);
         say(b"\n");
     }
-    say_number(b"all: compared ", t.allcompared);
-    say_number(b", differ ", t.alldiffer);
-    say(b"\n");
+    report::total_line(t);
 }

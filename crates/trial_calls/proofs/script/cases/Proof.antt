@@ -1,0 +1,30 @@
+-- `trial_calls::script::cases` ends: each line begins behind the one before.
+-- Assumes nothing.
+use Prim.Native.Nat.{_-_}
+use borrow.Author.Needs.{needs}
+use mathlib.Core.Path.{_≡_}
+use lib.ListN.{length}
+use Rattle.trial_calls.proofs.script.cases.Statement.{statement}
+use Rattle.trial_calls.proofs.script.cases.Tie as tie
+
+abbrev Inv-loop : tie.InvT-loop
+Inv-loop text page₀ s₀ at₀ page s at = length page ≡ 153
+
+abbrev μ-loop : tie.MeasureT-loop
+μ-loop text page₀ s₀ at₀ page s at = length text - at
+
+pub cases-spec : {M : Type 1} → statement M
+cases-spec =
+    tie.close
+    (tie.spec
+    Inv-loop
+    μ-loop
+    (λ c κs. search needs)
+    (λ c κs. search needs)
+    (λ c. search needs)
+    (λ c. search needs)
+    (λ c κs. search needs)
+    (λ c κs. search needs)
+    (λ c. search needs)
+    (λ c. search needs)
+    (λ c. search needs))

@@ -1,0 +1,31 @@
+-- `trial_calls::seen::lines` prints sixteen lines and ends.
+-- Assumes nothing.
+use Prim.Native.Nat.{_≤_, _-_}
+use borrow.Author.Needs.{needs}
+use Rattle.trial_calls.proofs.seen.lines.Statement.{statement}
+use Rattle.trial_calls.proofs.seen.lines.Tie as tie
+
+abbrev Inv-loop : tie.InvT-loop
+Inv-loop seen k₀ t4 t5 k = k ≤ 16
+
+abbrev μ-loop : tie.MeasureT-loop
+μ-loop seen k₀ t4 t5 k = 16 - k
+
+pub lines-spec : {M : Type 1} → statement M
+lines-spec =
+    tie.close
+    (tie.spec
+    Inv-loop
+    μ-loop
+    (λ c. search needs)
+    (λ c κs. search needs)
+    (λ c. search needs)
+    (λ c. search needs)
+    (λ c. search needs)
+    (λ c κs. search needs)
+    (λ c. search needs)
+    (λ c κs. search needs)
+    (λ c. search needs)
+    (λ c. search needs)
+    (λ c. search needs)
+    (λ c. search needs))

@@ -1,0 +1,30 @@
+-- `trial_calls::try_kind` tries the cases of a kind one after the other, and ends.
+-- Assumes nothing.
+use Prim.Native.Nat.{_≤_, _-_}
+use borrow.Author.Needs.{needs}
+use Rattle.trial_calls.proofs.try_kind.Statement.{statement}
+use Rattle.trial_calls.proofs.try_kind.Tie as tie
+
+abbrev Inv-loop : tie.InvT-loop
+Inv-loop kind style r₀ case₀ r case = case ≤ style .runs
+
+abbrev μ-loop : tie.MeasureT-loop
+μ-loop kind style r₀ case₀ r case = style .runs - case
+
+pub try-kind-spec : {M : Type 1} → statement M
+try-kind-spec =
+    tie.close
+    (tie.spec
+    Inv-loop
+    μ-loop
+    (λ c κs. search needs)
+    (λ c κs. search needs)
+    (λ c. search needs)
+    (λ c κs. search needs)
+    (λ c κs. search needs)
+    (λ c κs. search needs)
+    (λ c. search needs)
+    (λ c. search needs)
+    (λ c. search needs)
+    (λ c κs. search needs)
+    (λ c. search needs))

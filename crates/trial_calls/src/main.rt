@@ -1,0 +1,72 @@
+// Compares the library's opening, slots and yields with the model's on stated cases and on lists of calls that are fixed by
+// seeds, holds each list against the ledger, and prints what was compared.
+use run::Case;
+use run::Run;
+use seen::Seen;
+use trial_kit::draw;
+use trial_kit::tally;
+use trial_kit::values;
+
+mod both;
+mod changes;
+mod draws;
+mod forms;
+mod report;
+mod run;
+mod script;
+mod seen;
+mod styles;
+
+const KINDS: u32 = 20;
+
+fn start() -> Run {
+    let o = regulator::open(values::nothing());
+    let state = o.state;
+    Run {
+        state,
+        tally: tally::start(),
+        seen: Seen { counts: [0; 16] },
+    }
+}
+
+fn with_next_kind(r: Run) -> Run {
+    let mut after = r;
+    let t = r.tally;
+    let fresh = tally::next_kind(t);
+    after.tally = fresh;
+    after
+}
+
+fn try_kind(before: Run, kind: u32) -> Run {
+    let style = styles::of_kind(kind);
+    let mut r = with_next_kind(before);
+    let mut case: u32 = 0;
+    while case < style.runs {
+        let of = Case {
+            kind,
+            case,
+            seed: draw::draw(std::num::wrapping_add_u32(kind, 1000), case),
+        };
+        let next = run::tried(r, of, style);
+        r = next;
+        case += 1;
+    }
+    let t = r.tally;
+    report::kind_line(t, kind);
+    r
+}
+
+fn main() {
+    let mut text = io::large_buffer();
+    let bytes = io::read_full(0, &mut text);
+    let mut r = script::cases(start(), &text[..bytes]);
+    let mut kind: u32 = 0;
+    while kind < KINDS {
+        let next = try_kind(r, kind);
+        r = next;
+        kind += 1;
+    }
+    let t = r.tally;
+    let s = r.seen;
+    report::last_lines(t, s);
+}

@@ -1,0 +1,35 @@
+// Text and numbers printed, and the lines that every test program has.
+use super::tally::Tally;
+use libc::STDOUT_FILENO;
+
+pub fn say(text: &[u8]) {
+    io::write_all(STDOUT_FILENO, text);
+}
+
+pub fn say_number(text: &[u8], x: u32) {
+    say(text);
+    io::print_decimal(STDOUT_FILENO, x as u64);
+}
+
+// What was compared of a kind, after its name.
+pub fn counts_line(t: Tally) {
+    say_number(b": compared ", t.compared);
+    say_number(b", accepted ", t.accepted);
+    say_number(b", refused ", t.refused);
+    say_number(b", differ ", t.differ);
+    say(b"\n");
+}
+
+// How often a refusal was told.
+pub fn told_line(t: Tally, number: u32) {
+    let k = (number % 64) as usize;
+    say_number(b"refusal ", number);
+    say_number(b": told ", t.told[k]);
+    say(b"\n");
+}
+
+pub fn total_line(t: Tally) {
+    say_number(b"all: compared ", t.allcompared);
+    say_number(b", differ ", t.alldiffer);
+    say(b"\n");
+}

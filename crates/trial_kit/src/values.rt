@@ -1,0 +1,198 @@
+// Plans held as values: their words, and drawn ones.
+ghost use Prim.Native.Nat.{_<_};
+use super::draw;
+use plan::Plan;
+
+// How a plan is drawn: any that is accepted, sixteen domains whose Q sum to P, sixteen whose Q are all P, or one with
+// large reservations that is accepted.
+pub const GOOD: u32 = 0;
+
+pub const WHOLE: u32 = 1;
+
+pub const FULL: u32 = 2;
+
+pub const LARGE: u32 = 3;
+
+pub fn wide(x: u16) -> u32
+    ensures { λ r. ⌜ r < 65536 ⌝ }
+{
+    x as u32
+}
+
+pub fn narrow(x: u32) -> u16 {
+    (x % 65536) as u16
+}
+
+fn one_if(b: bool) -> u32 {
+    if b { 1 } else { 0 }
+}
+
+// Word k of a plan as the model has it: at 4 * (n - 1) present, Q, R and W of domain n.
+pub fn word(p: Plan, k: u32) -> u32 {
+    let i = (k / 4 % 16) as usize;
+    match k % 4 {
+        0 => one_if(p.planned[i]),
+        1 => wide(p.reservation[i]),
+        2 => wide(p.reclaimcap[i]),
+        _ => wide(p.writebackcap[i]),
+    }
+}
+
+// The plan with word k put to a value.
+pub fn with_word(p: Plan, k: u32, value: u32) -> Plan {
+    let mut after = p;
+    let i = (k / 4 % 16) as usize;
+    match k % 4 {
+        0 => after.planned[i] = value != 0,
+        1 => after.reservation[i] = narrow(value),
+        2 => after.reclaimcap[i] = narrow(value),
+        _ => after.writebackcap[i] = narrow(value),
+    }
+    after
+}
+
+pub fn with_period(p: Plan, period: u32) -> Plan {
+    let mut after = p;
+    after.period = narrow(period);
+    after
+}
+
+pub fn words(p: Plan) -> [u32; 64] {
+    let mut all = [0u32; 64];
+    let mut k: u32 = 0;
+    while k < 64 {
+        all[k as usize] = word(p, k);
+        k += 1;
+    }
+    all
+}
+
+pub fn same_words(a: [u32; 64], b: [u32; 64]) -> bool {
+    let mut k: usize = 0;
+    while k < 64 {
+        if a[k] != b[k] {
+            return false;
+        }
+        k += 1;
+    }
+    true
+}
+
+pub fn nothing() -> Plan {
+    Plan {
+        period: 0,
+        planned: [false; 16],
+        reservation: [0; 16],
+        reclaimcap: [0; 16],
+        writebackcap: [0; 16],
+    }
+}
+
+// A number from 0 to the most given, often one of the ends.
+fn amount(seed: u32, salt: u32, most: u32) -> u32 {
+    match draw::draw(seed, salt) / 65536 % 4 {
+        0 => 0,
+        1 => most,
+        _ => draw::upto(seed, salt, most),
+    }
+}
+
+fn drawn_period(seed: u32, style: u32) -> u32 {
+    if style == FULL {
+        return 4096;
+    }
+    match draw::upto(seed, 1, 5) {
+        0 => 4096,
+        1 | 2 => 1 + draw::upto(seed, 2, 31),
+        _ => 1 + draw::upto(seed, 2, 4095),
+    }
+}
+
+// Whether a domain is left out: of plans of the styles WHOLE and FULL none is.
+fn left_out(seed: u32, style: u32, n: u32) -> bool {
+    match style {
+        1 | 2 => false,
+        _ => draw::upto(seed, std::num::wrapping_add_u32(n, 100), 3) < draw::upto(seed, 3, 4),
+    }
+}
+
+// Q of domain n + 1, where so much of the period is left.
+fn quota(seed: u32, style: u32, n: u32, left: u32) -> u32 {
+    if style == FULL {
+        return 4096;
+    }
+    if style == WHOLE {
+        if n == 15 {
+            return left;
+        }
+    }
+    let most = if style == LARGE { left } else { left / 4 };
+    amount(seed, std::num::wrapping_add_u32(n, 200), most)
+}
+
+// A plan while its domains are drawn, with what is left of its period.
+struct Draft {
+    plan: Plan,
+    left: u32,
+}
+
+fn with_domain(d: Draft, seed: u32, style: u32, n: u32) -> Draft {
+    if left_out(seed, style, n) {
+        return d;
+    }
+    let left = d.left;
+    let p = d.plan;
+    let period = wide(p.period);
+    let q = quota(seed, style, n, left);
+    let k = n % 16 * 4;
+    let present = with_word(p, k, 1);
+    let reserved = with_word(present, k + 1, q);
+    let capped = with_word(
+        reserved,
+        k + 2,
+        amount(seed, std::num::wrapping_add_u32(n, 300), period),
+    );
+    let whole = with_word(
+        capped,
+        k + 3,
+        amount(seed, std::num::wrapping_add_u32(n, 400), period),
+    );
+    Draft {
+        plan: whole,
+        left: if q <= left { left - q } else { 0 },
+    }
+}
+
+pub fn drawn(seed: u32, style: u32) -> Plan {
+    drawn_in(seed, style, drawn_period(seed, style))
+}
+
+// A plan of the period given.
+pub fn drawn_in(seed: u32, style: u32, period: u32) -> Plan {
+    let start = with_period(nothing(), period);
+    let mut d = Draft {
+        plan: start,
+        left: period,
+    };
+    let mut n: u32 = 0;
+    while n < 16 {
+        let next = with_domain(d, seed, style, n);
+        d = next;
+        n += 1;
+    }
+    d.plan
+}
+
+// Sixteen domains whose Q sum to P, to P + 1, or to 65,536.
+pub fn summed(seed: u32, case: u32) -> Plan {
+    match case % 3 {
+        0 => drawn(seed, WHOLE),
+        1 => with_more(drawn(seed, WHOLE), draw::upto(seed, 4, 15) * 4 + 1),
+        _ => drawn(seed, FULL),
+    }
+}
+
+// The plan with word k raised by 1.
+fn with_more(p: Plan, k: u32) -> Plan {
+    with_word(p, k, std::num::wrapping_add_u32(word(p, k), 1))
+}
