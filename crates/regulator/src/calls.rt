@@ -6,7 +6,7 @@ ghost use Rattle.plan.specs.Value.{noDomains};
 ghost use Rattle.regulator.specs.State.{yielding};
 ghost use Rattle.regulator.specs.Turn.{granted as grantedIn, verdicts as verdictsOf};
 ghost use Rattle.regulator.specs.Refusals.{slotRefusal, yieldRefusal};
-ghost use Rattle.regulator.specs.Calls.{openPlan, decided, slotOf, verdictsIn, yieldOf};
+ghost use Rattle.regulator.specs.Calls.{openPlan, oneSlot, slotOf, verdictsIn, yieldOf};
 use super::close;
 use super::close::Answer;
 use super::grant;
@@ -81,7 +81,7 @@ fn tell_verdicts(s: State, offers: &[u8], verdicts: &mut [u8]) -> usize
 // One slot, of a call that is not refused.
 pub(crate) fn decide(s: State, offers: &[u8], verdicts: &mut [u8]) -> Answer
     requires { ⌜ slotRefusal s (now offers) (length (now verdicts)) ≡ 0 ⌝ }
-    ensures answer { λ r. ⌜ r ≡ decided s (now (offers .entry)) ⌝ }
+    ensures answer { λ r. ⌜ r ≡ oneSlot s (now (offers .entry)) ⌝ }
     ensures shown { λ r. ⌜ now (verdicts .exit) ≡ verdictsOf s (now (offers .entry)) ⌝ }
 {
     let n = tell_verdicts(s, offers, verdicts);

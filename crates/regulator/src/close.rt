@@ -1,7 +1,7 @@
 // The end of a slot: a period's counts, and the next period.
 ghost use mathlib.Core.Path.{_≡_};
 ghost use Prim.Native.Nat.{_<_};
-ghost use Rattle.regulator.specs.Close.{countsOf, plain, ended};
+ghost use Rattle.regulator.specs.Close.{countsOf, withoutCounts, ended};
 use super::state;
 use super::state::State;
 
@@ -43,7 +43,7 @@ fn counts_of(s: State) -> Counts
 
 // An answer without counts.
 pub(crate) fn without_counts(n: u8, s: State) -> Answer
-    ensures { λ r. ⌜ r ≡ plain n s ⌝ }
+    ensures { λ r. ⌜ r ≡ withoutCounts n s ⌝ }
 {
     let none = Counts {
         idle: 0,

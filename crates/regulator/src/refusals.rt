@@ -5,16 +5,16 @@ ghost use lib.Dec.{eqb};
 ghost use lib.ListN.{length};
 ghost use Rattle.table.specs.Ranges.{someBelow};
 ghost use Rattle.table.specs.Lines.{firstOf};
-ghost use Rattle.regulator.specs.Refusals.{callTable, noOffer, unplanned, offersRefusal, slotRefusal, noDomain, yieldRefusal};
+ghost use Rattle.regulator.specs.Refusals.{callTable, aboveTwo, unplanned, offersRefusal, slotRefusal, noDomain, yieldRefusal};
 use super::numbers;
 use super::state;
 use super::state::State;
 use plan::Plan;
 
 // Is a byte of the offers above 2?
-fn any_no_offer(offers: &[u8]) -> bool
+fn any_above_two(offers: &[u8]) -> bool
     requires { ⌜ length (now offers) ≡ 17 ⌝ }
-    ensures { λ b. ⌜ b ≡ someBelow (noOffer (now (offers .entry))) 17 ⌝ }
+    ensures { λ b. ⌜ b ≡ someBelow (aboveTwo (now (offers .entry))) 17 ⌝ }
 {
     let mut n = 0;
     while n < 17 {
@@ -57,7 +57,7 @@ fn check_offers(p: Plan, offers: &[u8], room: usize) -> u8
     if room != 17 {
         return 31;
     }
-    if any_no_offer(offers) {
+    if any_above_two(offers) {
         return 32;
     }
     if any_unplanned(p, offers) {

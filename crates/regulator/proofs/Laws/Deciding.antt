@@ -15,9 +15,9 @@ use Rattle.table.proofs.Tables.{miss, hit}
 use Rattle.regulator.specs.State.{begun, yielding}
 use Rattle.regulator.specs.Turn.{granted, verdicts}
 use Rattle.regulator.specs.Grant.{onClaim, onStock, onNeither, domainGrant, grant, onward}
-use Rattle.regulator.specs.Close.{countsOf, plain, ended}
+use Rattle.regulator.specs.Close.{countsOf, withoutCounts, ended}
 use Rattle.regulator.specs.Refusals.{slotRefusal, yieldRefusal}
-use Rattle.regulator.specs.Calls.{decided, slotOf, verdictsIn, yieldOf}
+use Rattle.regulator.specs.Calls.{oneSlot, slotOf, verdictsIn, yieldOf}
 use Rattle.regulator.specs.declared.state.State.{State}
 use Rattle.regulator.specs.declared.close.Answer.{Answer}
 
@@ -69,7 +69,7 @@ grant-time s o n = go (eqb n 17) (eqb n 0) (ltb 0 (nth (s .claim) (n - 1)))
 
 -- the end of a slot
 module _ (s : State) where
-  pub ended-open : s .decided ≢ s .plan .period → ended s ≡ plain 0 s
+  pub ended-open : s .decided ≢ s .plan .period → ended s ≡ withoutCounts 0 s
   unfolding ended
   ended-open h = miss _ _ _ (ne-eqb (s .decided) (s .plan .period) h)
 
@@ -87,12 +87,12 @@ module _ (s : State) where
 
 -- a slot call that is refused, and one that is not
 module _ (s : State) (o : List ℕ) where
-  pub slot-refused : (room : ℕ) → slotRefusal s o room ≢ 0 → slotOf s o room ≡ plain (slotRefusal s o room) s
+  pub slot-refused : (room : ℕ) → slotRefusal s o room ≢ 0 → slotOf s o room ≡ withoutCounts (slotRefusal s o room) s
   unfolding slotOf
   slot-refused room h = miss _ _ _ (ne-eqb (slotRefusal s o room) 0 h)
 
   pub slot-decided : (room : ℕ) → slotRefusal s o room ≡ 0 → slotOf s o room ≡ ended (onward (grant s o (granted s o)) (granted s o))
-  unfolding slotOf decided
+  unfolding slotOf oneSlot
   slot-decided room h = hit _ _ _ (eq-eqb (slotRefusal s o room) 0 h)
 
   pub slot-number : (room : ℕ) → slotOf s o room .refused ≡ slotRefusal s o room

@@ -87,6 +87,11 @@ module _ (s : State) (k : Kept s) where
     room : nth (s .writebacks) i + cond w 1 0 ≤ nth (s .plan .writebackcap) i
     room = one-fits w (nth (s .writebacks) i) (nth (s .plan .writebackcap) i) (k .balanced .domain i h .capped) below
 
+    capped-kept : (j : ℕ) → nth (s .writebacks) j ≤ nth (s .plan .writebackcap) j
+        → nth (raised (s .writebacks) i (cond w 1 0)) j ≤ nth (s .plan .writebackcap) j
+    capped-kept j c =
+        raised-most (s .writebacks) i (cond w 1 0) (omega (arith, k .shape .writebacks)) j (s .plan .writebackcap) room c
+
     claim-keeps : 0 < nth (s .claim) i → Kept (onward (onClaim s i w) (i + 1))
     claim-keeps c =
         let b = k .balanced in
@@ -108,7 +113,7 @@ module _ (s : State) (k : Kept s) where
                 record {
                   share = omega (arith, moved (s .claim) (s .reserved) i 1 (omega (arith, l .claim)) (omega (arith, l .reserved)) j c, d .share);
                   reclaims = d .reclaims;
-                  capped = raised-most (s .writebacks) i (cond w 1 0) (omega (arith, l .writebacks)) j (s .plan .writebackcap) room (d .capped);
+                  capped = capped-kept j (d .capped);
                   passed =
                       writebacks-passed (s .writebacks) (s .reserved) i (omega (arith, l .writebacks)) (omega (arith, l .reserved)) w j
                       (nth (s .reclaimed) j) (d .passed);
@@ -141,7 +146,7 @@ module _ (s : State) (k : Kept s) where
                   reclaims =
                       raised-most (s .reclaimed) i 1 (omega (arith, l .reclaimed)) j (s .plan .reclaimcap)
                       (omega (arith, r, b .domain i h .reclaims)) (d .reclaims);
-                  capped = raised-most (s .writebacks) i (cond w 1 0) (omega (arith, l .writebacks)) j (s .plan .writebackcap) room (d .capped);
+                  capped = capped-kept j (d .capped);
                   passed =
                       let p =
                       writebacks-passed (s .writebacks) (s .reclaimed) i (omega (arith, l .writebacks)) (omega (arith, l .reclaimed)) w j

@@ -17,7 +17,7 @@ use Rattle.plan.specs.Value.{outside}
 use Rattle.plan.specs.declared.value.Plan.{Plan}
 use Rattle.plan.proofs.Laws.Values.{within}
 use Rattle.regulator.specs.State.{addsUp}
-use Rattle.regulator.specs.Refusals.{callTable, noOffer, unplanned, offersTable, offersRefusal, slotRefusal, noDomain, claimTable, yieldRefusal}
+use Rattle.regulator.specs.Refusals.{callTable, aboveTwo, unplanned, offersTable, offersRefusal, slotRefusal, noDomain, claimTable, yieldRefusal}
 use Rattle.regulator.specs.declared.state.State.{State}
 
 -- the lines of any call do not apply, and the lines after them decide
@@ -48,7 +48,7 @@ yield-30 s d k e = call-30 s _ e (never 30 (claimTable s d k) 0 tt (λ z. omega 
 pub record OffersTaken (p : Plan) (offers : List ℕ) (room : ℕ) : Type 0 where
   pub offers-long : length offers ≡ 17
   pub room-long : room ≡ 17
-  pub kinds : someBelow (noOffer offers) 17 ≡ false
+  pub kinds : someBelow (aboveTwo offers) 17 ≡ false
   pub planned : someBelow (unplanned p offers) 16 ≡ false
 
 pub offers-taken : (p : Plan) (offers : List ℕ) (room : ℕ) → offersRefusal p offers room ≡ 0 → OffersTaken p offers room

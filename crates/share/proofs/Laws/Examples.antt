@@ -15,7 +15,7 @@ use Rattle.regulator.specs.Turn.{after, ask, granted, verdicts}
 use Rattle.regulator.specs.Grant.{domainGrant, grant}
 use Rattle.regulator.specs.Close.{ended}
 use Rattle.regulator.specs.Refusals.{offersRefusal, slotRefusal, noDomain, yieldRefusal}
-use Rattle.regulator.specs.Calls.{openPlan, decided, slotOf, verdictsIn, yieldOf}
+use Rattle.regulator.specs.Calls.{openPlan, oneSlot, slotOf, verdictsIn, yieldOf}
 use Rattle.share.specs.Ledger.{slotEntry, enter, moments}
 use Rattle.share.specs.Run.{made, run, taken, fed}
 use Rattle.share.specs.Cases.{outcomeOf, Starred}
@@ -23,7 +23,7 @@ use Rattle.share.specs.Premise.{PremiseMet}
 
 -- one line of names serves both
 computed : Starred × PremiseMet
-unfolding sum raised lowered has lastOf valuesBelow everyBelow someBelow lowestFrom withAll outside above outOfRange reserved planRefusal zeros unlisted linkOf faultAt fault goesOn walk chainOf noLength readPlan numbersAddUp domainAddsUp addsUp atCap waits waiting loose blocked ruling rulingAt rulingOf after ask granted verdicts domainGrant grant ended openPlan offersRefusal slotRefusal decided slotOf verdictsIn noDomain yieldRefusal yieldOf made run taken fed slotEntry enter moments outcomeOf
+unfolding sum raised lowered has lastOf valuesBelow everyBelow someBelow lowestFrom withAll outside above outOfRange reserved planRefusal zeros unlisted linkOf faultAt fault goesOn walk chainOf noLength readPlan numbersAddUp domainAddsUp addsUp atCap waits waiting loose blocked ruling rulingAt rulingOf after ask granted verdicts domainGrant grant ended openPlan offersRefusal slotRefusal oneSlot slotOf verdictsIn noDomain yieldRefusal yieldOf made run taken fed slotEntry enter moments outcomeOf
 computed = (
   refl,
   (

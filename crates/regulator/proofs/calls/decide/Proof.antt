@@ -7,7 +7,7 @@ use native.Mathlib.Omega.{arith}
 use lib.ListN.{length}
 use Rattle.regulator.specs.Grant.{grant, onward}
 use Rattle.regulator.specs.Close.{ended}
-use Rattle.regulator.specs.Calls.{decided}
+use Rattle.regulator.specs.Calls.{oneSlot}
 use Rattle.regulator.specs.declared.state.State.{State}
 use Rattle.regulator.proofs.Laws.Adding.{Adds, adds}
 use Rattle.regulator.proofs.Laws.Refusing.{SlotTaken, slot-taken}
@@ -66,7 +66,7 @@ same-length : tie.Need-same-length
 same-length c = search needs
 
 returns : tie.Need-returns
-unfolding decided
+unfolding oneSlot
 returns c =
     let g = c .before .before in
     let t = g .before .before .before in

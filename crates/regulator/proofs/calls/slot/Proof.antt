@@ -4,9 +4,9 @@ use mathlib.Core.Path.{_≡_, sym, ap, _∙_}
 use denote.Ref.{now}
 use Prim.Native.Nat.{ℕ}
 use lib.ListN.{length}
-use Rattle.regulator.specs.Close.{plain}
+use Rattle.regulator.specs.Close.{withoutCounts}
 use Rattle.regulator.specs.Refusals.{slotRefusal}
-use Rattle.regulator.specs.Calls.{decided}
+use Rattle.regulator.specs.Calls.{oneSlot}
 use Rattle.regulator.proofs.Laws.Deciding.{slot-refused, slot-decided, shown-refused, shown-decided}
 use borrow.Author.Needs.{needs}
 use Rattle.regulator.proofs.calls.slot.Statement.{statement}
@@ -24,7 +24,7 @@ returns c =
     let e = c .before .before .check-slot .ensures in
     let told : slotRefusal (a .s) (now (a .offers)) (length (now (a .verdicts))) ≡ 0 → ⊥ = λ z. c .before .if1 .taken (e ∙ z) in (
       c .without-counts .ensures
-          ∙ ap (λ (n : ℕ). plain n (a .s)) e
+          ∙ ap (λ (n : ℕ). withoutCounts n (a .s)) e
           ∙ sym (slot-refused (a .s) (now (a .offers)) (length (now (a .verdicts))) told),
       sym (shown-refused (a .s) (now (a .offers)) (now (a .verdicts)) told),
     )
@@ -36,7 +36,7 @@ same-length : tie.Need-same-length
 same-length c = search needs
 
 returns-2 : tie.Need-returns-2
-unfolding decided
+unfolding oneSlot
 returns-2 c =
     let b = c .before .before .before .before .before in
     let a = b .before .before .before .args in

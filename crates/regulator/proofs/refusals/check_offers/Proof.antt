@@ -15,14 +15,14 @@ returns-2 : tie.Need-returns-2
 unfolding offersRefusal
 returns-2 c = rw (eq-eqb _ 17 (c .before .if1 .left), ne-eqb _ 17 (c .if2 .taken))
 
-any-no-offer-requires : tie.Need-any-no-offer-requires
-any-no-offer-requires c κs = search needs
+any-above-two-requires : tie.Need-any-above-two-requires
+any-above-two-requires c κs = search needs
 
 returns-3 : tie.Need-returns-3
 unfolding offersRefusal
 returns-3 c =
     let b = c .before .before in
-    rw (eq-eqb _ 17 (b .before .if1 .left), eq-eqb _ 17 (b .if2 .left), sym (c .before .any-no-offer .ensures) ∙ c .if3 .taken)
+    rw (eq-eqb _ 17 (b .before .if1 .left), eq-eqb _ 17 (b .if2 .left), sym (c .before .any-above-two .ensures) ∙ c .if3 .taken)
 
 any-unplanned-requires : tie.Need-any-unplanned-requires
 any-unplanned-requires c κs = search needs
@@ -32,14 +32,14 @@ unfolding offersRefusal
 returns-4 c =
     let b = c .before .before in
     let a = b .before .before in
-    rw (eq-eqb _ 17 (a .before .if1 .left), eq-eqb _ 17 (a .if2 .left), sym (b .before .any-no-offer .ensures) ∙ b .if3 .left, sym (c .before .any-unplanned .ensures) ∙ c .if4 .taken)
+    rw (eq-eqb _ 17 (a .before .if1 .left), eq-eqb _ 17 (a .if2 .left), sym (b .before .any-above-two .ensures) ∙ b .if3 .left, sym (c .before .any-unplanned .ensures) ∙ c .if4 .taken)
 
 returns-5 : tie.Need-returns-5
 unfolding offersRefusal
 returns-5 c =
     let b = c .before .before in
     let a = b .before .before in
-    rw (eq-eqb _ 17 (a .before .if1 .left), eq-eqb _ 17 (a .if2 .left), sym (b .before .any-no-offer .ensures) ∙ b .if3 .left, sym (c .before .any-unplanned .ensures) ∙ c .if4 .left)
+    rw (eq-eqb _ 17 (a .before .if1 .left), eq-eqb _ 17 (a .if2 .left), sym (b .before .any-above-two .ensures) ∙ b .if3 .left, sym (c .before .any-unplanned .ensures) ∙ c .if4 .left)
 
 pub check-offers-spec : {M : Type 1} → statement M
 check-offers-spec =
@@ -47,7 +47,7 @@ check-offers-spec =
     (tie.spec
     returns
     returns-2
-    any-no-offer-requires
+    any-above-two-requires
     returns-3
     any-unplanned-requires
     returns-4

@@ -1,4 +1,4 @@
--- `regulator::refusals::any_no_offer` meets its contract: no byte passed is above 2.
+-- `regulator::refusals::any_above_two` meets its contract: no byte passed is above 2.
 -- Assumes nothing.
 use mathlib.Core.Path.{_≡_, sym, subst}
 use mathlib.Core.Bool.{false}
@@ -9,12 +9,12 @@ use borrow.Author.Needs.{needs}
 use borrow.Author.Tests.{lt-ltb, le-ltb}
 use Rattle.table.specs.Ranges.{someBelow}
 use Rattle.table.proofs.Searches.{some-none, some-more, some-at}
-use Rattle.regulator.specs.Refusals.{noOffer}
-use Rattle.regulator.proofs.refusals.any_no_offer.Statement.{statement}
-use Rattle.regulator.proofs.refusals.any_no_offer.Tie as tie
+use Rattle.regulator.specs.Refusals.{aboveTwo}
+use Rattle.regulator.proofs.refusals.any_above_two.Statement.{statement}
+use Rattle.regulator.proofs.refusals.any_above_two.Tie as tie
 
 abbrev Inv-loop : tie.InvT-loop
-Inv-loop offers n₀ n = (n ≤ 17) × (someBelow (noOffer offers) n ≡ false)
+Inv-loop offers n₀ n = (n ≤ 17) × (someBelow (aboveTwo offers) n ≡ false)
 
 abbrev μ-loop : tie.MeasureT-loop
 μ-loop offers n₀ n = 17 - n
@@ -41,10 +41,10 @@ returns-2 : tie.Need-returns-2 Inv-loop μ-loop
 returns-2 c =
     let l = c .before .loop in
     let all : l .n ≡ 17 = omega arith in
-    sym (subst (λ (n : ℕ). someBelow (noOffer (now (c .before .before .args .offers))) n ≡ false) all (l .inv .1))
+    sym (subst (λ (n : ℕ). someBelow (aboveTwo (now (c .before .before .args .offers))) n ≡ false) all (l .inv .1))
 
-pub any-no-offer-spec : {M : Type 1} → statement M
-any-no-offer-spec =
+pub any-above-two-spec : {M : Type 1} → statement M
+any-above-two-spec =
     tie.close
     (tie.spec
     Inv-loop
