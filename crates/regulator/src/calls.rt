@@ -1,9 +1,10 @@
 // The calls: opening, slots and yields, for any state and any arguments.
 ghost use mathlib.Core.Path.{_≡_};
+ghost use mathlib.Core.Bool.{true};
 ghost use Prim.Native.Nat.{_-_};
 ghost use lib.ListN.{length};
 ghost use Rattle.plan.specs.Value.{noDomains};
-ghost use Rattle.regulator.specs.State.{yielding};
+ghost use Rattle.regulator.specs.State.{addsUp, yielding};
 ghost use Rattle.regulator.specs.Turn.{granted as grantedIn, verdicts as verdictsOf};
 ghost use Rattle.regulator.specs.Refusals.{slotRefusal, yieldRefusal};
 ghost use Rattle.regulator.specs.Calls.{openPlan, oneSlot, slotOf, verdictsIn, yieldOf};
@@ -79,7 +80,7 @@ fn tell_verdicts(s: State, offers: &[u8], verdicts: &mut [u8]) -> usize
 }
 
 // One slot, of a call that is not refused.
-pub(crate) fn decide(s: State, offers: &[u8], verdicts: &mut [u8]) -> Answer
+fn decide(s: State, offers: &[u8], verdicts: &mut [u8]) -> Answer
     requires { ⌜ slotRefusal s (now offers) (length (now verdicts)) ≡ 0 ⌝ }
     ensures answer { λ r. ⌜ r ≡ oneSlot s (now (offers .entry)) ⌝ }
     ensures shown { λ r. ⌜ now (verdicts .exit) ≡ verdictsOf s (now (offers .entry)) ⌝ }
@@ -89,8 +90,9 @@ pub(crate) fn decide(s: State, offers: &[u8], verdicts: &mut [u8]) -> Answer
     close::end(grant::go_on(t, n))
 }
 
-// One slot: the verdicts go to the lent buffer.
-pub fn slot(s: State, offers: &[u8], verdicts: &mut [u8]) -> Answer
+// A slot call on a state that adds up, as every state of a run does.
+pub fn run_slot(s: State, offers: &[u8], verdicts: &mut [u8]) -> Answer
+    requires { ⌜ addsUp s ≡ true ⌝ }
     ensures answer { λ r. ⌜ r ≡ slotOf s (now (offers .entry)) (length (now (verdicts .entry))) ⌝ }
     ensures shown { λ r. ⌜ now (verdicts .exit) ≡ verdictsIn s (now (offers .entry)) (now (verdicts .entry)) ⌝ }
 {
@@ -101,16 +103,29 @@ pub fn slot(s: State, offers: &[u8], verdicts: &mut [u8]) -> Answer
     decide(s, offers, verdicts)
 }
 
+// One slot: the verdicts go to the lent buffer.
+pub fn slot(s: State, offers: &[u8], verdicts: &mut [u8]) -> Answer
+    ensures answer { λ r. ⌜ r ≡ slotOf s (now (offers .entry)) (length (now (verdicts .entry))) ⌝ }
+    ensures shown { λ r. ⌜ now (verdicts .exit) ≡ verdictsIn s (now (offers .entry)) (now (verdicts .entry)) ⌝ }
+{
+    if state::adds_up(s) {
+        run_slot(s, offers, verdicts)
+    } else {
+        close::without_counts(30, s)
+    }
+}
+
 // A yield that is not refused.
-pub(crate) fn give(s: State, domain: u64, k: u64) -> State
+fn give(s: State, domain: u64, k: u64) -> State
     requires { ⌜ yieldRefusal s domain k ≡ 0 ⌝ }
     ensures { λ r. ⌜ r ≡ yielding s (domain - 1) k ⌝ }
 {
     state::move_claim(s, (domain - 1) as usize, k as u16)
 }
 
-// Moves k of a domain's claim to the stock.
-pub fn yield_claim(s: State, domain: u64, k: u64) -> Yielding
+// A yield on a state that adds up, as every state of a run does.
+pub fn run_yield(s: State, domain: u64, k: u64) -> Yielding
+    requires { ⌜ addsUp s ≡ true ⌝ }
     ensures { λ r. ⌜ r ≡ yieldOf s domain k ⌝ }
 {
     let n = refusals::check_yield(s, domain, k);
@@ -124,5 +139,19 @@ pub fn yield_claim(s: State, domain: u64, k: u64) -> Yielding
     Yielding {
         refused: 0,
         state: t,
+    }
+}
+
+// Moves k of a domain's claim to the stock.
+pub fn yield_claim(s: State, domain: u64, k: u64) -> Yielding
+    ensures { λ r. ⌜ r ≡ yieldOf s domain k ⌝ }
+{
+    if state::adds_up(s) {
+        run_yield(s, domain, k)
+    } else {
+        Yielding {
+            refused: 30,
+            state: s,
+        }
     }
 }

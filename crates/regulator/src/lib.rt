@@ -4,7 +4,8 @@
 // slot(state, offers, verdicts): one slot decided, for any state, bytes and lengths; or 30, 34, 31, 32 or 33.
 // yield_claim(state, domain, k): claim moved to the stock, for any state and numbers; or 30, 34, 21, 22 or 23.
 //
-// Inside, calls::decide and calls::give are what slot and yield_claim do after their checks: they require what was checked.
+// run_slot and run_yield are slot and yield_claim for a caller whose state is known to add up, as every state of a run from an
+// opened plan does: they require it, and do not check it again.
 mod calls;
 mod close;
 mod grant;
@@ -17,6 +18,8 @@ mod verdict;
 pub use calls::Opening;
 pub use calls::Yielding;
 pub use calls::open;
+pub use calls::run_slot;
+pub use calls::run_yield;
 pub use calls::slot;
 pub use calls::yield_claim;
 pub use close::Answer;

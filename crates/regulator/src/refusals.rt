@@ -1,13 +1,12 @@
 // When a call on a state is refused: the first line of the table that applies.
 ghost use mathlib.Core.Path.{_≡_};
-ghost use mathlib.Core.Bool.{not, _&&_};
+ghost use mathlib.Core.Bool.{true, not, _&&_};
 ghost use lib.Dec.{eqb};
 ghost use lib.ListN.{length};
 ghost use Rattle.table.specs.Ranges.{someBelow};
-ghost use Rattle.table.specs.Lines.{firstOf};
-ghost use Rattle.regulator.specs.Refusals.{callTable, aboveTwo, unplanned, offersRefusal, slotRefusal, noDomain, yieldRefusal};
+ghost use Rattle.regulator.specs.State.{addsUp};
+ghost use Rattle.regulator.specs.Refusals.{aboveTwo, unplanned, offersRefusal, slotRefusal, noDomain, yieldRefusal};
 use super::numbers;
-use super::state;
 use super::state::State;
 use plan::Plan;
 
@@ -66,24 +65,13 @@ fn check_offers(p: Plan, offers: &[u8], room: usize) -> u8
     0
 }
 
-// 30 or 34, which any call on a state can be refused with, or 0.
-fn check_state(s: State) -> u8
-    ensures { λ r. ⌜ r ≡ firstOf (callTable s) 0 ⌝ }
-{
-    if state::adds_up(s) {
-        if s.closed == 4294967295 { 34 } else { 0 }
-    } else {
-        30
-    }
-}
-
-// The refusal of a slot call, or 0.
+// The refusal of a slot call on a state that adds up, or 0.
 pub(crate) fn check_slot(s: State, offers: &[u8], room: usize) -> u8
+    requires { ⌜ addsUp s ≡ true ⌝ }
     ensures { λ r. ⌜ r ≡ slotRefusal s (now (offers .entry)) room ⌝ }
 {
-    let n = check_state(s);
-    if n != 0 {
-        return n;
+    if s.closed == 4294967295 {
+        return 34;
     }
     let p = s.plan;
     check_offers(p, offers, room)
@@ -103,13 +91,13 @@ fn is_no_domain(p: Plan, domain: u64) -> bool
     !planned
 }
 
-// The refusal of a yield, or 0.
+// The refusal of a yield on a state that adds up, or 0.
 pub(crate) fn check_yield(s: State, domain: u64, k: u64) -> u8
+    requires { ⌜ addsUp s ≡ true ⌝ }
     ensures { λ r. ⌜ r ≡ yieldRefusal s domain k ⌝ }
 {
-    let n = check_state(s);
-    if n != 0 {
-        return n;
+    if s.closed == 4294967295 {
+        return 34;
     }
     let p = s.plan;
     if is_no_domain(p, domain) {

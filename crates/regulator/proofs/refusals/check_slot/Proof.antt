@@ -1,29 +1,29 @@
--- `regulator::refusals::check_slot` meets its contract: the lines of any call, and then the offers'.
+-- `regulator::refusals::check_slot` meets its contract: 34, and then the offers' lines.
 -- Assumes nothing.
-use mathlib.Core.Path.{sym, _∙_}
-use Rattle.table.proofs.Tables.{first-told, first-next}
-use Rattle.regulator.specs.Refusals.{callTable, slotRefusal}
+use mathlib.Core.Path.{_≡_, sym, _∙_}
+use mathlib.Core.Bool.{true}
+use denote.Ref.{now}
+use Rattle.regulator.specs.State.{addsUp}
+use Rattle.regulator.proofs.Laws.Refusing.{slot-full, slot-on}
 use borrow.Author.Needs.{needs}
 use Rattle.regulator.proofs.refusals.check_slot.Statement.{statement}
 use Rattle.regulator.proofs.refusals.check_slot.Tie as tie
 
-check-state-requires : tie.Need-check-state-requires
-check-state-requires c κs = search needs
+sound : (c : tie.Start) → addsUp (c .args .s) ≡ true
+sound c = search needs
 
 returns : tie.Need-returns
-unfolding slotRefusal
 returns c =
-    let e = c .before .check-state .ensures in
-    e ∙ sym (first-told (callTable (c .before .before .before .args .s)) _ (λ z. c .if1 .taken (e ∙ z)))
+    let b = c .before .before .before in
+    sym (slot-full (b .args .s) (now (b .args .offers)) (b .args .room) (sound b) (c .if1 .taken))
 
 check-offers-requires : tie.Need-check-offers-requires
 check-offers-requires c κs = search needs
 
 returns-2 : tie.Need-returns-2
-unfolding slotRefusal
 returns-2 c =
-    let e = c .before .before .before .check-state .ensures in
-    c .check-offers .ensures ∙ sym (first-next (callTable (c .before .before .before .before .before .args .s)) _ (sym e ∙ c .before .before .if1 .left) tt)
+    let b = c .before .before .before .before .before in
+    c .check-offers .ensures ∙ sym (slot-on (b .args .s) (now (b .args .offers)) (b .args .room) (sound b) (c .before .before .if1 .left))
 
 pub check-slot-spec : {M : Type 1} → statement M
-check-slot-spec = tie.close (tie.spec check-state-requires returns check-offers-requires returns-2)
+check-slot-spec = tie.close (tie.spec returns check-offers-requires returns-2)

@@ -1,26 +1,26 @@
--- `regulator::refusals::check_yield` meets its contract: the lines of any call, and then the claim's, line by line.
+-- `regulator::refusals::check_yield` meets its contract: 34, and then the claim's lines.
 -- Assumes nothing.
 use mathlib.Core.Path.{_≡_, sym, _∙_}
-use mathlib.Core.Bool.{false}
+use mathlib.Core.Bool.{true, false}
 use Prim.Native.Nat.{_≤_}
 use native.Mathlib.Omega.{arith}
 use borrow.Author.Tests.{eq-eqb, ne-eqb, lt-ltb, le-ltb}
 use Rattle.table.specs.Lines.{firstOf}
-use Rattle.table.proofs.Tables.{miss, hit, first-told, first-next}
-use Rattle.regulator.specs.Refusals.{callTable, claimTable, noDomain, yieldRefusal}
-use Rattle.regulator.proofs.Laws.Refusing.{domain-number}
+use Rattle.table.proofs.Tables.{miss, hit}
+use Rattle.regulator.specs.State.{addsUp}
+use Rattle.regulator.specs.Refusals.{claimTable, noDomain, yieldRefusal}
+use Rattle.regulator.proofs.Laws.Refusing.{yield-full, yield-on, domain-number}
 use borrow.Author.Needs.{needs}
 use Rattle.regulator.proofs.refusals.check_yield.Statement.{statement}
 use Rattle.regulator.proofs.refusals.check_yield.Tie as tie
 
-check-state-requires : tie.Need-check-state-requires
-check-state-requires c κs = search needs
+sound : (c : tie.Start) → addsUp (c .args .s) ≡ true
+sound c = search needs
 
 returns : tie.Need-returns
-unfolding yieldRefusal
 returns c =
-    let e = c .before .check-state .ensures in
-    e ∙ sym (first-told (callTable (c .before .before .args .s)) _ (λ z. c .if1 .taken (e ∙ z)))
+    let b = c .before .before in
+    sym (yield-full (b .args .s) (b .args .domain) (b .args .k) (sound b) (c .if1 .taken))
 
 is-no-domain-requires : tie.Need-is-no-domain-requires
 is-no-domain-requires c κs = search needs
@@ -28,10 +28,9 @@ is-no-domain-requires c κs = search needs
 -- the lines that were passed by
 past1 : (c : tie.Else1)
     → (let a = c .before .before .args in yieldRefusal (a .s) (a .domain) (a .k) ≡ firstOf (claimTable (a .s) (a .domain) (a .k)) 0)
-unfolding yieldRefusal
 past1 c =
-    let a = c .before .before .args in
-    first-next (callTable (a .s)) _ (sym (c .before .check-state .ensures) ∙ c .if1 .left) tt
+    let b = c .before .before in
+    yield-on (b .args .s) (b .args .domain) (b .args .k) (sound b) (c .if1 .left)
 
 returns-2 : tie.Need-returns-2
 returns-2 c = sym (past1 (c .before .before .before) ∙ hit _ _ _ (sym (c .before .is-no-domain .ensures) ∙ c .if2 .taken))
@@ -69,7 +68,6 @@ pub check-yield-spec : {M : Type 1} → statement M
 check-yield-spec =
     tie.close
     (tie.spec
-    check-state-requires
     returns
     is-no-domain-requires
     returns-2
