@@ -1,0 +1,24 @@
+-- `script::text::put_header` meets its contract.
+-- Assumes nothing.
+use Rattle.script.specs.Line.{before}
+use Rattle.script.specs.Text.{header}
+use borrow.Author.Needs.{needs}
+use Rattle.script.proofs.text.put_header.Statement.{statement}
+use Rattle.script.proofs.text.put_header.Tie as tie
+
+slice-aggregate-put-bytes : tie.Need-slice-aggregate-put-bytes
+slice-aggregate-put-bytes c = search needs
+
+put-bytes-requires : tie.Need-put-bytes-requires
+put-bytes-requires c κs = search needs
+
+same-length : tie.Need-same-length
+same-length c = search needs
+
+returns : tie.Need-returns
+unfolding header
+returns c = c .before .before .put-bytes .ensures
+
+pub put-header-spec : {M : Type 1} → statement M
+put-header-spec =
+    tie.close (tie.spec slice-aggregate-put-bytes put-bytes-requires same-length returns)
