@@ -1,0 +1,2 @@
+-- The laws of the program.
+pub mod Moving

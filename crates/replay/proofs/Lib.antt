@@ -1,0 +1,2 @@
+-- What is proved of the program beside its functions.
+pub mod Laws
