@@ -14,13 +14,16 @@ use Rattle.plan.specs.declared.reading.Reading.{Reading}
 use Rattle.regulator.specs.Verdict.{loose}
 use Rattle.regulator.specs.Calls.{openPlan}
 use Rattle.regulator.specs.declared.close.Counts.{Counts}
+use Rattle.script.specs.Text.{bytes}
+use Rattle.script.specs.Replay.{replayText}
 use Rattle.share.specs.Call.{Call, slot, yield}
 use Rattle.share.specs.Run.{Made, run}
 
--- An input: a plan file that is read, or a plan file whose plan is opened, and calls from there on.
+-- An input: a plan file that is read; a plan file whose plan is opened, and calls from there on; or a plan file and a script of the replay.
 pub data Input : Type 0 where
   file : (bytes : List ℕ) → Input
   calls : (bytes : List ℕ) → List Call → Input
+  replayed : (bytes script : List ℕ) → Input
 
 -- What is shown of a call: 0 or the number of a refusal, what the lent buffer holds on return, the idle slots and loose of the state
 -- returned (loose before the next slot, that is), and the counts told.
@@ -31,10 +34,11 @@ pub record Shown : Type 0 where
   pub loose : ℤ
   pub counts : Option Counts
 
--- An outcome: what reading answers; or 0 or the number of a refusal of opening, and what is shown of each call.
+-- An outcome: what reading answers; 0 or the number of a refusal of opening, and what is shown of each call; or all that is printed.
 pub data Outcome : Type 0 where
   reading : Reading → Outcome
   answers : (refused : ℕ) → List Shown → Outcome
+  prints : List ℕ → Outcome
 
 abbrev shownOf : Made → Shown
 shownOf m = record { refused = m .refused; verdicts = m .shown; idle = m .state .idle; loose = loose (m .state); counts = m .counts }
@@ -44,6 +48,7 @@ outcomeOf (file bytes) = reading (readPlan bytes)
 outcomeOf (calls bytes cs) =
     let o = openPlan (readPlan bytes .plan) in
     answers (o .refused) (map (λ (m : Made). shownOf m) (run (o .state) cs))
+outcomeOf (replayed bytes script) = prints (replayText bytes script)
 
 pub record Case : Type 0 where
   pub input : Input
@@ -127,6 +132,15 @@ countsWith best reserved reclaimed yielded =
 abbrev pub script : List Call
 script = replicate 4 (offer 1 1 1) ++ (yield 1 1 ∷ (replicate 3 (offer 1 1 1) ++ (offer 0 1 0 ∷ [])))
 
+-- the same as the replay's script, and all of its output
+abbrev scriptText : List ℕ
+scriptText =
+    bytes
+    "s 11100000000000000\ns 11100000000000000\ns 11100000000000000\ns 11100000000000000\ny 1 1\ns 11100000000000000\ns 11100000000000000\ns 11100000000000000\ns 01000000000000000\n"
+
+abbrev outputText : List ℕ
+outputText = bytes "period idle best domains\n1 0 1 1:2+0-0w0 2:1+0-0w0\n2 0 1 1:1+1-1w0 2:1+0-0w0\nopen 0\n"
+
 abbrev pub cases : List Case
 cases =
     -- a: "empty file: 1"
@@ -187,6 +201,8 @@ cases =
           ∷ completes 0 1 0 (countsWith 1 1 1 1)
           ∷ []);
     }
+    -- "All of the output"
+    ∷ record { input = replayed planA scriptText; outcome = prints outputText }
     ∷ []
 
 -- the claim: each input has its outcome

@@ -3,7 +3,7 @@
 use mathlib.Core.Path.{refl}
 use mathlib.Core.Logic.{inl, inr}
 use Rattle.table.specs.Sums.{sum, raised, lowered}
-use Rattle.table.specs.Members.{has, lastOf}
+use Rattle.table.specs.Members.{has, each, lastOf}
 use Rattle.table.specs.Ranges.{valuesBelow, everyBelow, someBelow, lowestFrom}
 use Rattle.plan.specs.Value.{withAll, outside, above, outOfRange, reserved, planRefusal}
 use Rattle.plan.specs.Records.{zeros}
@@ -16,6 +16,9 @@ use Rattle.regulator.specs.Grant.{domainGrant, grant}
 use Rattle.regulator.specs.Close.{ended}
 use Rattle.regulator.specs.Refusals.{offersRefusal, slotRefusal, noDomain, yieldRefusal}
 use Rattle.regulator.specs.Calls.{openPlan, oneSlot, slotOf, verdictsIn, yieldOf}
+use Rattle.script.specs.Line.{isDigit, isNumber, valueFrom, before, behind, isSlot, offersOf, slotMeaning, isYield, yieldMeaning, meaningOf}
+use Rattle.script.specs.Text.{digitsOf, decimal, header, domainText, domainsText, periodText, openText}
+use Rattle.script.specs.Replay.{split, carriedOut, linesText, replayText}
 use Rattle.share.specs.Ledger.{slotEntry, enter, moments}
 use Rattle.share.specs.Run.{made, run, taken, fed}
 use Rattle.share.specs.Cases.{outcomeOf, Starred}
@@ -23,7 +26,7 @@ use Rattle.share.specs.Premise.{PremiseMet}
 
 -- one line of names serves both
 computed : Starred × PremiseMet
-unfolding sum raised lowered has lastOf valuesBelow everyBelow someBelow lowestFrom withAll outside above outOfRange reserved planRefusal zeros unlisted linkOf faultAt fault goesOn walk chainOf noLength readPlan numbersAddUp domainAddsUp addsUp atCap waits waiting loose blocked ruling rulingAt rulingOf after ask granted verdicts domainGrant grant ended openPlan offersRefusal slotRefusal oneSlot slotOf verdictsIn noDomain yieldRefusal yieldOf made run taken fed slotEntry enter moments outcomeOf
+unfolding sum raised lowered has lastOf valuesBelow everyBelow someBelow lowestFrom withAll outside above outOfRange reserved planRefusal zeros unlisted linkOf faultAt fault goesOn walk chainOf noLength readPlan numbersAddUp domainAddsUp addsUp atCap waits waiting loose blocked ruling rulingAt rulingOf after ask granted verdicts domainGrant grant ended openPlan offersRefusal slotRefusal oneSlot slotOf verdictsIn noDomain yieldRefusal yieldOf made run taken fed slotEntry enter moments outcomeOf each isDigit isNumber valueFrom before behind isSlot offersOf slotMeaning isYield yieldMeaning meaningOf digitsOf decimal header domainText domainsText periodText openText split carriedOut linesText replayText
 computed = (
   refl,
   (
