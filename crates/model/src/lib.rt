@@ -1,13 +1,17 @@
-// A second implementation of plans and of the regulator, made plain and slow to compare the library with, and the ledger.
+// A second implementation of plans, of the regulator and of the replay program, made plain and slow to compare the library
+// with, and the ledger.
 // A plan is a period and flat words: those of domain n (1 to 16) stand at 4 * (n - 1): present (0 or 1), reservation Q,
 // reclaim cap R, writeback cap W. A state, counts and the ledger's page are 153 words, whose places `cells` states.
 mod calls;
 mod cells;
 mod chain;
+mod form;
 mod layout;
 mod ledger;
 mod record;
+mod run;
 mod sums;
+pub mod text;
 mod verdict;
 mod words;
 
@@ -15,10 +19,16 @@ pub use calls::open;
 pub use calls::slot;
 pub use calls::take_yield;
 pub use cells::WORDS;
+pub use form::Line;
+pub use form::SLOT;
+pub use form::is_yield;
+pub use form::read_line;
 pub use ledger::Entry;
 pub use ledger::begin;
 pub use ledger::enter_slot;
 pub use ledger::enter_yield;
+pub use run::Ended;
+pub use run::replay;
 pub use sums::adds_up;
 
 // What reading a file tells: number 0 where it is accepted; on a refusal the period and all words are 0.

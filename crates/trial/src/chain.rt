@@ -1,7 +1,7 @@
 // A plan laid into a file as a chain of records in any order.
 ghost use Prim.Native.Nat.{_≤_};
-use super::bytes;
 use plan::Plan;
+use trial_kit::bytes;
 use trial_kit::draw;
 use trial_kit::values;
 

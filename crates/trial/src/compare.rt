@@ -1,10 +1,10 @@
 // The library and the model on one file, or on one plan held as a value and a lent buffer.
-use super::bytes;
 use model::Answer;
 use model::Told;
 use plan::Plan;
 use plan::Reading;
 use plan::Writing;
+use trial_kit::bytes;
 use trial_kit::tally::Verdict;
 use trial_kit::tally::both;
 use trial_kit::values;

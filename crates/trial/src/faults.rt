@@ -1,7 +1,7 @@
 // Faults put into a file that was laid well.
-use super::bytes;
 use super::chain;
 use super::chain::Chain;
+use trial_kit::bytes;
 use trial_kit::draw;
 
 // The faults by number: 8 of a link, then 5 of a domain number, 7 of a byte that has to be zero, 9 of Q, R and W.

@@ -1,12 +1,12 @@
 // The files of each kind.
 ghost use Prim.Native.Nat.{_≤_};
-use super::bytes;
 use super::chain;
 use super::chain::Chain;
 use super::compare;
 use super::faults;
 use super::stated;
 use plan::Plan;
+use trial_kit::bytes;
 use trial_kit::draw;
 use trial_kit::values;
 

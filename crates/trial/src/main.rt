@@ -4,7 +4,6 @@ use trial_kit::tally;
 use trial_kit::tally::Tally;
 use trial_kit::tally::Verdict;
 
-mod bytes;
 mod chain;
 mod compare;
 mod faults;

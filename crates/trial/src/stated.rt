@@ -1,7 +1,7 @@
 // Plan A and its neighbours, with the outcomes that document 01 states for them.
-use super::bytes;
 use super::compare;
 use model::Answer;
+use trial_kit::bytes;
 
 // Cases 1 to 9 are plan A with one number of two bytes put to a value; that of case 1 leaves it as it is.
 fn put_neighbour(file: &mut [u8], case: u32) {

@@ -10,7 +10,7 @@
 //   none                            the slot call before told no counts
 //   has RR C VVVVVVVVVV             the word of the state in this row and column of the model
 //   already closed NNNNNNNNNN       the state is given so many closed periods
-ghost use Prim.Native.Nat.{_<_, _≤_};
+ghost use Prim.Native.Nat.{_≤_};
 use super::both;
 use super::both::Call;
 use super::both::Outcome;
@@ -21,6 +21,7 @@ use super::run::Run;
 use super::seen;
 use plan::Plan;
 use regulator::Counts;
+use trial_kit::lines;
 use trial_kit::report;
 use trial_kit::tally;
 use trial_kit::values;
@@ -38,49 +39,13 @@ pub struct Script {
     pub counts: Counts,
 }
 
-fn byte(text: &[u8], at: usize) -> u8 {
-    if at < text.len() { text[at] } else { 10 }
-}
-
-fn digit(text: &[u8], from: usize, k: usize) -> u8 {
-    let b = byte(text, std::num::wrapping_add_usize(from, k));
-    if b < b'0' {
-        return 0;
-    }
-    if b > b'9' { 0 } else { b - b'0' }
-}
-
-fn wide(x: u8) -> u64
-    ensures { λ r. ⌜ r < 256 ⌝ }
-{
-    x as u64
-}
-
-// The number of so many digits, at an offset of the line that begins at a place.
-fn number(text: &[u8], at: usize, offset: usize, digits: usize) -> u64 {
-    let from = std::num::wrapping_add_usize(at, offset);
-    let mut value: u64 = 0;
-    let mut k: usize = 0;
-    while k < digits {
-        value = value % 100000000000 * 10 + wide(digit(text, from, k));
-        k += 1;
-    }
-    value
-}
-
-fn small(text: &[u8], at: usize, offset: usize, digits: usize) -> u32
-    ensures { λ r. ⌜ r < 65536 ⌝ }
-{
-    (number(text, at, offset, digits) % 65536) as u32
-}
-
 // Seventeen digits as bytes, and a byte behind them.
 fn digits_of(text: &[u8], at: usize, offset: usize, behind: u8) -> [u8; 18] {
     let from = std::num::wrapping_add_usize(at, offset);
     let mut all = [behind; 18];
     let mut k: usize = 0;
     while k < 17 {
-        all[k] = digit(text, from, k);
+        all[k] = lines::digit(text, from, k);
         k += 1;
     }
     all
@@ -112,8 +77,11 @@ fn opened(s: Script, text: &[u8], at: usize, o: Outcome) -> Script {
     let of = s.of;
     let v = o.verdict;
     let after = with_run(s, run::opened(r, of, o));
-    let due = v.number == small(text, at, 5, 2);
-    stated(after, tally::both(due, o.place == small(text, at, 8, 4)))
+    let due = v.number == lines::small(text, at, 5, 2);
+    stated(
+        after,
+        tally::both(due, o.place == lines::small(text, at, 8, 4)),
+    )
 }
 
 fn open_line(s: Script, text: &[u8], at: usize, page: &mut [u64]) -> Script {
@@ -148,7 +116,7 @@ fn slot_line(s: Script, text: &[u8], at: usize, page: &mut [u64]) -> Script {
     let o = both::answered(state, c);
     let verdicts = o.verdicts;
     let due = digits_of(text, at, 23, 9);
-    let after = called(s, page, c, o, small(text, at, 41, 2));
+    let after = called(s, page, c, o, lines::small(text, at, 41, 2));
     stated(after, both::same_bytes(verdicts, due))
 }
 
@@ -161,10 +129,16 @@ fn yield_line(s: Script, text: &[u8], at: usize, page: &mut [u64]) -> Script {
         offered: 17,
         lent: 17,
         filled: 9,
-        domain: number(text, at, 6, 2),
-        k: number(text, at, 9, 4),
+        domain: lines::number(text, at, 6, 2),
+        k: lines::number(text, at, 9, 4),
     };
-    called(s, page, c, both::answered(state, c), small(text, at, 14, 2))
+    called(
+        s,
+        page,
+        c,
+        both::answered(state, c),
+        lines::small(text, at, 14, 2),
+    )
 }
 
 // Whether count n of a row, which begin with idle in row 0 and with reserved in a domain's, is the number at an offset.
@@ -172,8 +146,8 @@ fn tells(s: Script, text: &[u8], at: usize, n: usize) -> bool
     requires { ⌜ n ≤ 3 ⌝ }
 {
     let c = s.counts;
-    let row = small(text, at, 5, 2) as usize;
-    let due = number(text, at, 8 + 5 * n, 4);
+    let row = lines::small(text, at, 5, 2) as usize;
+    let due = lines::number(text, at, 8 + 5 * n, 4);
     if row == 0 {
         forms::count_word(c, 3 + n) == due
     } else {
@@ -190,14 +164,14 @@ fn told_line(s: Script, text: &[u8], at: usize) -> Script {
 fn has_line(s: Script, text: &[u8], at: usize) -> Script {
     let r = s.run;
     let state = r.state;
-    let k = small(text, at, 4, 2) as usize * 9 + small(text, at, 7, 1) as usize;
-    stated(s, forms::word(state, k) == number(text, at, 9, 10))
+    let k = lines::small(text, at, 4, 2) as usize * 9 + lines::small(text, at, 7, 1) as usize;
+    stated(s, forms::word(state, k) == lines::number(text, at, 9, 10))
 }
 
 fn closed_line(s: Script, text: &[u8], at: usize) -> Script {
     let mut r = s.run;
     let state = r.state;
-    let given = forms::with_word(state, 2, number(text, at, 15, 10));
+    let given = forms::with_word(state, 2, lines::number(text, at, 15, 10));
     r.state = given;
     with_run(s, r)
 }
@@ -210,41 +184,14 @@ fn with_plan(s: Script, p: Plan) -> Script {
 
 fn domain_line(s: Script, text: &[u8], at: usize) -> Script {
     let p = s.plan;
-    let k = (small(text, at, 7, 2) + 15) % 16 * 4;
+    let k = (lines::small(text, at, 7, 2) + 15) % 16 * 4;
     let one = values::with_word(p, k, 1);
-    let two = values::with_word(one, k + 1, small(text, at, 10, 4));
-    let three = values::with_word(two, k + 2, small(text, at, 15, 4));
-    with_plan(s, values::with_word(three, k + 3, small(text, at, 20, 4)))
-}
-
-// The end of the line that begins at a place: where its byte 10 stands, or the text's end.
-fn line_end(text: &[u8], from: usize) -> usize
-    ensures { λ r. do ⌜ r ≤ (← ⟦text.len()⟧ .entry) ⌝ }
-{
-    let mut at = from;
-    while at < text.len() {
-        if text[at] == 10 {
-            return at;
-        }
-        at += 1;
-    }
-    text.len()
-}
-
-// Where the next line begins.
-fn after_line(text: &[u8], from: usize) -> usize
-    requires { do ⌜ from < (← ⟦text.len()⟧) ⌝ }
-    ensures { λ r. ⌜ from < r ⌝ }
-{
-    let end = line_end(text, from);
-    if from <= end { end + 1 } else { text.len() }
-}
-
-fn say_name(text: &[u8], from: usize) {
-    let end = line_end(text, from);
-    if from <= end {
-        report::say(&text[from..end]);
-    }
+    let two = values::with_word(one, k + 1, lines::small(text, at, 10, 4));
+    let three = values::with_word(two, k + 2, lines::small(text, at, 15, 4));
+    with_plan(
+        s,
+        values::with_word(three, k + 3, lines::small(text, at, 20, 4)),
+    )
 }
 
 // The counts of the case at hand are printed, and the next begins.
@@ -254,7 +201,7 @@ fn case_line(s: Script, text: &[u8], at: usize) -> Script {
     let t = r.tally;
     let of = s.of;
     if of.case > 0 {
-        say_name(text, s.named);
+        lines::say_line(text, s.named);
         report::counts_line(t);
     }
     let fresh = tally::next_kind(t);
@@ -271,11 +218,11 @@ fn case_line(s: Script, text: &[u8], at: usize) -> Script {
 }
 
 fn line(s: Script, text: &[u8], at: usize, page: &mut [u64]) -> Script {
-    match byte(text, at) {
+    match lines::byte(text, at) {
         b'c' => case_line(s, text, at),
         b'p' => with_plan(
             s,
-            values::with_period(values::nothing(), small(text, at, 5, 4)),
+            values::with_period(values::nothing(), lines::small(text, at, 5, 4)),
         ),
         b'd' => domain_line(s, text, at),
         b'o' => open_line(s, text, at, page),
@@ -307,7 +254,7 @@ pub fn cases(before: Run, text: &[u8]) -> Run {
     while at < text.len() {
         let next = line(s, text, at, &mut page);
         s = next;
-        at = after_line(text, at);
+        at = lines::after_line(text, at);
     }
     s.run
 }

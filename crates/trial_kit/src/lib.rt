@@ -1,6 +1,10 @@
-// What the test programs share: drawn numbers, drawn plans, the counts of what was compared, and their lines.
+// What the test programs share: bytes put and filled, drawn numbers, drawn plans, the lines of a text, the counts of what was
+// compared, and their lines.
+pub mod bytes;
 pub mod draw;
+pub mod lines;
 pub mod plans;
 pub mod report;
+pub mod styles;
 pub mod tally;
 pub mod values;

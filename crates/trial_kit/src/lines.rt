@@ -1,0 +1,70 @@
+// The lines of a lent text: their bytes, digits and numbers, and where they end.
+ghost use Prim.Native.Nat.{_<_, _≤_};
+use super::report;
+
+pub fn byte(text: &[u8], at: usize) -> u8 {
+    if at < text.len() { text[at] } else { 10 }
+}
+
+pub fn digit(text: &[u8], from: usize, k: usize) -> u8 {
+    let b = byte(text, std::num::wrapping_add_usize(from, k));
+    if b < b'0' {
+        return 0;
+    }
+    if b > b'9' { 0 } else { b - b'0' }
+}
+
+fn wide(x: u8) -> u64
+    ensures { λ r. ⌜ r < 256 ⌝ }
+{
+    x as u64
+}
+
+// The number of so many digits, at an offset of the line that begins at a place.
+pub fn number(text: &[u8], at: usize, offset: usize, digits: usize) -> u64 {
+    let from = std::num::wrapping_add_usize(at, offset);
+    let mut value: u64 = 0;
+    let mut k: usize = 0;
+    while k < digits {
+        value = value % 100000000000 * 10 + wide(digit(text, from, k));
+        k += 1;
+    }
+    value
+}
+
+pub fn small(text: &[u8], at: usize, offset: usize, digits: usize) -> u32
+    ensures { λ r. ⌜ r < 65536 ⌝ }
+{
+    (number(text, at, offset, digits) % 65536) as u32
+}
+
+// The end of the line that begins at a place: where its byte 10 stands, or the text's end.
+pub fn line_end(text: &[u8], from: usize) -> usize
+    ensures { λ r. do ⌜ r ≤ (← ⟦text.len()⟧ .entry) ⌝ }
+{
+    let mut at = from;
+    while at < text.len() {
+        if text[at] == 10 {
+            return at;
+        }
+        at += 1;
+    }
+    text.len()
+}
+
+// Where the next line begins.
+pub fn after_line(text: &[u8], from: usize) -> usize
+    requires { do ⌜ from < (← ⟦text.len()⟧) ⌝ }
+    ensures { λ r. ⌜ from < r ⌝ }
+{
+    let end = line_end(text, from);
+    if from <= end { end + 1 } else { text.len() }
+}
+
+// Prints a line from a place on.
+pub fn say_line(text: &[u8], from: usize) {
+    let end = line_end(text, from);
+    if from <= end {
+        report::say(&text[from..end]);
+    }
+}

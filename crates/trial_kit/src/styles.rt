@@ -1,0 +1,71 @@
+// Plans of a style.
+use super::draw;
+use super::plans;
+use super::values;
+use plan::Plan;
+
+// The styles: accepted and refused values, P 1, P 2 to 40, P 4,096, no domains, sixteen domains, all Q zero, sums
+// of Q equal to P, and P 1 to 8.
+pub const ACCEPTED: u32 = 0;
+
+pub const REFUSED: u32 = 1;
+
+pub const ONE: u32 = 2;
+
+pub const SMALL: u32 = 3;
+
+pub const MOST: u32 = 4;
+
+pub const NONE: u32 = 5;
+
+pub const SIXTEEN: u32 = 6;
+
+pub const UNRESERVED: u32 = 7;
+
+pub const WHOLE: u32 = 8;
+
+pub const LEAST: u32 = 9;
+
+// Plans with few large or with many small reservations.
+fn mixed(seed: u32, period: u32) -> Plan {
+    if draw::upto(seed, 5, 2) == 0 {
+        values::drawn_in(seed, values::GOOD, period)
+    } else {
+        values::drawn_in(seed, values::LARGE, period)
+    }
+}
+
+fn unreserved(p: Plan) -> Plan {
+    let mut after = p;
+    after.reservation = [0; 16];
+    after
+}
+
+// P 1, where a reservation of 1 is the whole period.
+fn of_one_slot(seed: u32, case: u32) -> Plan {
+    if case % 3 == 0 {
+        return mixed(seed, 1);
+    }
+    let without = unreserved(values::drawn_in(seed, values::WHOLE, 1));
+    values::with_word(without, draw::upto(seed, 6, 15) * 4 + 1, 1)
+}
+
+// A plan of the style.
+pub fn plan_of(style: u32, case: u32, seed: u32) -> Plan {
+    match style {
+        0 => values::drawn(seed, values::GOOD),
+        1 => plans::made(case % 5, case / 5, seed),
+        2 => of_one_slot(seed, case),
+        3 => mixed(seed, 2 + draw::upto(seed, 4, 38)),
+        4 => mixed(seed, 4096),
+        5 => values::with_period(values::nothing(), 1 + draw::upto(seed, 4, 11)),
+        6 => values::with_word(
+            values::drawn_in(seed, values::WHOLE, 16 + draw::upto(seed, 4, 40)),
+            61,
+            draw::upto(seed, 6, 3),
+        ),
+        7 => unreserved(mixed(seed, 2 + draw::upto(seed, 4, 20))),
+        8 => values::drawn_in(seed, values::WHOLE, 2 + draw::upto(seed, 4, 38)),
+        _ => mixed(seed, 1 + draw::upto(seed, 4, 7)),
+    }
+}

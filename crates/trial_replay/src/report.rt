@@ -1,0 +1,67 @@
+// The lines that are printed.
+use trial_kit::lines;
+use trial_kit::report;
+use trial_kit::report::say;
+use trial_kit::tally::Tally;
+
+// Where the name of a kind stands: the text given has the names in the order of the kinds, each behind the word `kind`.
+fn name_of(given: &[u8], kind: u32) -> usize {
+    let mut left = kind;
+    let mut at: usize = 0;
+    while at < given.len() {
+        if lines::byte(given, at) == b'k' {
+            if left == 0 {
+                return std::num::wrapping_add_usize(at, 5);
+            }
+            left -= 1;
+        }
+        at = lines::after_line(given, at);
+    }
+    at
+}
+
+// What was compared of a kind, after its name.
+pub fn counts_line(t: Tally, periods: u32) {
+    report::say_number(b": compared ", t.compared);
+    report::say_number(b", refused ", t.refused);
+    report::say_number(b", not refused ", t.accepted);
+    report::say_number(b", periods ", periods);
+    report::say_number(b", differ ", t.differ);
+    say(b"\n");
+}
+
+pub fn kind_line(given: &[u8], t: Tally, kind: u32, periods: u32) {
+    lines::say_line(given, name_of(given, kind));
+    counts_line(t, periods);
+}
+
+fn plan_lines(t: Tally) {
+    report::told_line(t, 1);
+    report::told_line(t, 2);
+    report::told_line(t, 3);
+    report::told_line(t, 4);
+    report::told_line(t, 5);
+    report::told_line(t, 6);
+    report::told_line(t, 7);
+    report::told_line(t, 8);
+    report::told_line(t, 9);
+    report::told_line(t, 10);
+}
+
+// The refusals, the total, and where something differed its first kind and case.
+pub fn last_lines(given: &[u8], t: Tally) {
+    plan_lines(t);
+    report::told_line(t, 21);
+    report::told_line(t, 22);
+    report::told_line(t, 23);
+    report::told_line(t, 32);
+    report::told_line(t, 33);
+    report::told_line(t, 41);
+    if t.alldiffer != 0 {
+        say(b"first difference: ");
+        lines::say_line(given, name_of(given, t.firstkind));
+        report::say_number(b", case ", t.firstcase);
+        say(b"\n");
+    }
+    report::total_line(t);
+}

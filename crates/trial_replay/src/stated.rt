@@ -1,0 +1,192 @@
+// Replays whose text is stated, read as text lines. The first byte tells what a line is:
+//   case NAME                             a case begins, with an empty plan file and an empty script
+//   file NNNNN NNNNN NNNNN NNNNN NNNNN    a record more of the plan file: its first five numbers of two bytes
+//   at OOOO NNN                           a byte of the plan file
+//   size NNNN                             the bytes of the plan file
+//   > TEXT                                a line of the script
+//   + TEXT                                a part of a line of the script, without byte 10
+//   byte NNN                              a byte of the script
+//   < TEXT                                a line of the text that is due
+//   run                                   the replay; the script and the text due begin anew
+//   kind NAME                             no case: the name of a kind, in the order of the kinds
+use super::compare;
+use super::compare::Outcome;
+use super::lines::put_part;
+use super::report;
+use model::text;
+use trial_kit::bytes;
+use trial_kit::draw;
+use trial_kit::lines;
+use trial_kit::tally;
+use trial_kit::tally::Tally;
+
+// The kind of all stated cases, behind the others.
+const STATED: u32 = 28;
+
+// The bytes so far of the plan file, the script and the text due, where the case's name stands, its number, and the periods
+// that its replays closed.
+struct Stand {
+    file: usize,
+    script: usize,
+    due: usize,
+    named: usize,
+    case: u32,
+    periods: u32,
+}
+
+// The line behind its first two bytes.
+fn put_rest(to: &mut [u8], at: usize, given: &[u8], from: usize) -> usize {
+    let end = lines::line_end(given, from);
+    put_part(to, at, given, std::num::wrapping_add_usize(from, 2), end)
+}
+
+fn put_line(to: &mut [u8], at: usize, given: &[u8], from: usize) -> usize {
+    let end = put_rest(to, at, given, from);
+    text::put_byte(to, end, 10)
+}
+
+// One record more.
+fn put_record(file: &mut [u8], size: usize, given: &[u8], at: usize) -> usize {
+    bytes::put_record(
+        file,
+        (size / 16 % 64) as u32,
+        lines::small(given, at, 5, 5),
+        lines::small(given, at, 11, 5),
+        lines::small(given, at, 17, 5),
+        lines::small(given, at, 23, 5),
+        lines::small(given, at, 29, 5),
+    );
+    std::num::wrapping_add_usize(size, 16)
+}
+
+fn put_byte(file: &mut [u8], given: &[u8], at: usize) {
+    bytes::put(
+        file,
+        lines::small(given, at, 3, 4) as usize,
+        draw::low(lines::small(given, at, 8, 3)),
+    );
+}
+
+// A line that makes the plan file, the script or the text due.
+fn with_line(
+    p: Stand,
+    given: &[u8],
+    at: usize,
+    file: &mut [u8],
+    script: &mut [u8],
+    due: &mut [u8],
+) -> Stand {
+    let mut after = p;
+    match lines::byte(given, at) {
+        b'f' => after.file = put_record(file, p.file, given, at),
+        b'a' => put_byte(file, given, at),
+        b's' => after.file = lines::small(given, at, 5, 4) as usize,
+        b'>' => after.script = put_line(script, p.script, given, at),
+        b'+' => after.script = put_rest(script, p.script, given, at),
+        b'b' => after.script = text::put_byte(
+            script,
+            p.script,
+            draw::low(lines::small(given, at, 5, 3)),
+        ),
+        b'<' => after.due = put_line(due, p.due, given, at),
+        _ => {}
+    }
+    after
+}
+
+fn replayed(p: Stand, file: &[u8], script: &[u8], due: &[u8]) -> Outcome {
+    let a = compare::least(p.file, file.len());
+    let b = compare::least(p.script, script.len());
+    let c = compare::least(p.due, due.len());
+    compare::replayed_as(&file[0..a], &script[0..b], &due[0..c], draw::low(p.case))
+}
+
+// Where the next replay of a case begins.
+fn after_run(p: Stand, periods: u32) -> Stand {
+    let mut after = p;
+    after.script = 0;
+    after.due = 0;
+    after.periods = std::num::wrapping_add_u32(p.periods, periods);
+    after
+}
+
+// Where the next case begins; its name is behind the word.
+fn next_case(p: Stand, at: usize) -> Stand {
+    Stand {
+        file: 0,
+        script: 0,
+        due: 0,
+        named: std::num::wrapping_add_usize(at, 5),
+        case: tally::more(p.case),
+        periods: 0,
+    }
+}
+
+// The counts of the case at hand are printed, and the next begins.
+fn case_line(t: Tally, p: Stand, given: &[u8]) -> Tally {
+    if p.case > 0 {
+        lines::say_line(given, p.named);
+        report::counts_line(t, p.periods);
+    }
+    tally::next_kind(t)
+}
+
+// The tally and the stand after a line.
+struct Both {
+    tally: Tally,
+    stand: Stand,
+}
+
+fn line(
+    b: Both,
+    given: &[u8],
+    at: usize,
+    file: &mut [u8],
+    script: &mut [u8],
+    due: &mut [u8],
+) -> Both {
+    let t = b.tally;
+    let p = b.stand;
+    match lines::byte(given, at) {
+        b'c' => Both {
+            tally: case_line(t, p, given),
+            stand: next_case(p, at),
+        },
+        b'r' => run_line(t, p, replayed(p, file, script, due)),
+        _ => Both {
+            tally: t,
+            stand: with_line(p, given, at, file, script, due),
+        },
+    }
+}
+
+fn run_line(t: Tally, p: Stand, o: Outcome) -> Both {
+    Both {
+        tally: tally::counted(t, STATED, p.case, compare::verdict(o)),
+        stand: after_run(p, o.periods),
+    }
+}
+
+// All cases of the text. Its last line begins a case without a name, so that the one before is printed.
+pub fn cases(before: Tally, given: &[u8], script: &mut [u8]) -> Tally {
+    let mut file = [0u8; 1040];
+    let mut due = [0u8; 4096];
+    let mut b = Both {
+        tally: before,
+        stand: Stand {
+            file: 0,
+            script: 0,
+            due: 0,
+            named: 0,
+            case: 0,
+            periods: 0,
+        },
+    };
+    let mut at: usize = 0;
+    while at < given.len() {
+        let next = line(b, given, at, &mut file, script, &mut due);
+        b = next;
+        at = lines::after_line(given, at);
+    }
+    b.tally
+}
