@@ -6,7 +6,6 @@ use Rattle.table.specs.Sums.{sum, raised, lowered}
 use Rattle.table.specs.Members.{has, each, lastOf}
 use Rattle.table.specs.Ranges.{valuesBelow, everyBelow, someBelow, lowestFrom}
 use Rattle.plan.specs.Value.{withAll, outside, above, outOfRange, reserved, planRefusal}
-use Rattle.plan.specs.Records.{zeros}
 use Rattle.plan.specs.Chain.{unlisted, linkOf, faultAt, fault, goesOn, walk, chainOf}
 use Rattle.plan.specs.Reading.{noLength, readPlan}
 use Rattle.regulator.specs.State.{numbersAddUp, domainAddsUp, addsUp}
@@ -26,7 +25,7 @@ use Rattle.share.specs.Premise.{PremiseMet}
 
 -- one line of names serves both
 computed : Starred × PremiseMet
-unfolding sum raised lowered has lastOf valuesBelow everyBelow someBelow lowestFrom withAll outside above outOfRange reserved planRefusal zeros unlisted linkOf faultAt fault goesOn walk chainOf noLength readPlan numbersAddUp domainAddsUp addsUp atCap waits waiting loose blocked ruling rulingAt rulingOf after ask granted verdicts domainGrant grant ended openPlan offersRefusal slotRefusal oneSlot slotOf verdictsIn noDomain yieldRefusal yieldOf made run taken fed slotEntry enter moments outcomeOf each isDigit isNumber valueFrom before behind isSlot offersOf slotMeaning isYield yieldMeaning meaningOf digitsOf decimal header domainText domainsText periodText openText split carriedOut linesText replayText
+unfolding sum raised lowered has lastOf valuesBelow everyBelow someBelow lowestFrom withAll outside above outOfRange reserved planRefusal unlisted linkOf faultAt fault goesOn walk chainOf noLength readPlan numbersAddUp domainAddsUp addsUp atCap waits waiting loose blocked ruling rulingAt rulingOf after ask granted verdicts domainGrant grant ended openPlan offersRefusal slotRefusal oneSlot slotOf verdictsIn noDomain yieldRefusal yieldOf made run taken fed slotEntry enter moments outcomeOf each isDigit isNumber valueFrom before behind isSlot offersOf slotMeaning isYield yieldMeaning meaningOf digitsOf decimal header domainText domainsText periodText openText split carriedOut linesText replayText
 computed = (
   refl,
   (
