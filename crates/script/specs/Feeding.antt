@@ -3,17 +3,16 @@
 use Prim.Native.Nat.{ℕ, _+_, _*_, _-_, _≤_, _<_}
 use mathlib.Core.Path.{_≡_}
 use mathlib.Core.List.{List, [], _++_}
-use mathlib.Core.Bool.{Bool, true, false, cond, not, _&&_}
-use lib.ListN.{length, take, drop}
+use mathlib.Core.Bool.{Bool, true, false, cond, not}
+use lib.ListN.{length, drop}
 use lib.Dec.{eqb, ltb}
-use Rattle.table.specs.Sums.{nth, sum}
+use Rattle.table.specs.Sums.{sum}
 use Rattle.table.specs.Members.{each}
 use Rattle.regulator.specs.State.{addsUp}
 use Rattle.regulator.specs.declared.state.State.{State}
-use Rattle.script.specs.Replay.{Done, split, linesText, replayText}
+use Rattle.script.specs.Replay.{split, linesText, replayText}
 use Rattle.script.specs.Output.{output, put}
 use Rattle.script.specs.declared.feeding.Run.{Run}
-use Rattle.script.specs.declared.carrying.Step.{Step}
 
 -- what is printed for the rest of a script: nothing more after a refusal
 unfoldable pub restText : Run → List ℕ → List ℕ
@@ -52,13 +51,14 @@ pub record Fed (part : List ℕ) (room : ℕ) (r : Run) (before : List ℕ) (q :
   pub sound : Sound q
   pub within : q .used ≤ length part
 
--- It stopped at a refusal, where room is lacking, or where no whole line is left and fewer than 20 bytes.
+-- It stopped at a refusal, where room is lacking, or where what is left of the part has no byte 10 and fewer than 20 bytes.
 pub record Feeds (part : List ℕ) (room : ℕ) (r : Run) (before : List ℕ) (q : Run) (after : List ℕ) : Type 0 where
   pub fed : Fed part room r before q after
-  pub dry : q .refused ≡ 0 → lacksRoom (q .at) (length after) room ≡ false
+  pub lineless : q .refused ≡ 0 → lacksRoom (q .at) (length after) room ≡ false
       → (unended (drop (q .used) part) ≡ true) × (length part < q .used + 20)
 
--- The run at the start of a script.
+-- The run at the start of a script: the header, or the refusal of the plan, went to the buffer; and whatever the script is, all of the
+-- output is that text and what is left to print.
 pub record Started (plan : List ℕ) (before : List ℕ) (q : Run) (after : List ℕ) : Type 0 where
   pub text : List ℕ
   pub shown : output after (q .at) ≡ put (output before 0) text

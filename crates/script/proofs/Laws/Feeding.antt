@@ -228,9 +228,9 @@ line-small r s e shape few =
     omega (arith, s .lines e, a .below, a .balanced .plan .small, yielded-fit (r .state) (a .balanced) shape)
 
 -- Where a search for a line's end came to the end of the part, no line is left.
-pub fed-dry : (part : List ℕ) (used end : ℕ) → LineEnd part used end → openEnd used end (length part) ≡ true
+pub fed-lineless : (part : List ℕ) (used end : ℕ) → LineEnd part used end → openEnd used end (length part) ≡ true
     → (unended (drop used part) ≡ true) × (length part < used + 20)
-fed-dry part used end l e =
+fed-lineless part used end l e =
     let b = and-both (eqb end (length part)) (ltb (end - used) 20) e in
     let n : end ≡ length part = eqb-true end (length part) (b .0) in
     let all : take (end - used) (drop used part) ≡ drop used part = take-all (end - used) (drop used part) (omega (arith, length-drop used part)) in

@@ -8,7 +8,7 @@ use lib.Dec.{eqb}
 use lib.ListN.{length}
 use Rattle.script.specs.Line.{before}
 use Rattle.script.specs.Feeding.{Sound, Fed}
-use Rattle.script.proofs.Laws.Feeding.{fed-none, fed-then, fed-dry, fed-less}
+use Rattle.script.proofs.Laws.Feeding.{fed-none, fed-then, fed-lineless, fed-less}
 use borrow.Author.Needs.{needs}
 use Rattle.script.proofs.feeding.feed.Statement.{statement}
 use Rattle.script.proofs.feeding.feed.Tie as tie
@@ -37,7 +37,7 @@ same-length c = search needs
 returns : tie.Need-returns Inv-loop μ-loop
 returns c =
     let l = c .before .before in
-    record { fed = l .loop .inv .1; dry = λ e. absurd (c .if1 .taken e) }
+    record { fed = l .loop .inv .1; lineless = λ e. absurd (c .if1 .taken e) }
 
 lacks-room-requires : tie.Need-lacks-room-requires Inv-loop μ-loop
 lacks-room-requires c κs = search needs
@@ -48,7 +48,7 @@ same-length-2 c = search needs
 returns-2 : tie.Need-returns-2 Inv-loop μ-loop
 returns-2 c =
     let l = c .before .before .before .before in
-    record { fed = l .loop .inv .1; dry = λ e f. absurd (false≢true (sym f ∙ sym (c .before .lacks-room .ensures) ∙ c .if2 .taken)) }
+    record { fed = l .loop .inv .1; lineless = λ e f. absurd (false≢true (sym f ∙ sym (c .before .lacks-room .ensures) ∙ c .if2 .taken)) }
 
 line-end-requires : tie.Need-line-end-requires Inv-loop μ-loop
 line-end-requires c κs = c .before .before .before .before .loop .inv .1 .within
@@ -66,7 +66,7 @@ returns-3 c =
     let part = now (l .before .before .before .args .part) in
     record {
       fed = l .loop .inv .1;
-      dry = λ z f. fed-dry part (l .loop .r .used) (e .line-end .result) (e .line-end .ensures) (sym (c .before .is-open-end .ensures) ∙ c .if3 .taken);
+      lineless = λ z f. fed-lineless part (l .loop .r .used) (e .line-end .result) (e .line-end .ensures) (sym (c .before .is-open-end .ensures) ∙ c .if3 .taken);
     }
 
 next-line-requires : tie.Need-next-line-requires Inv-loop μ-loop

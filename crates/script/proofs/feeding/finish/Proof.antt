@@ -21,7 +21,7 @@ use Rattle.script.proofs.feeding.finish.Tie as tie
 -- no line is left where no line was refused
 clear : (c : tie.After-feed) → c .feed .result .refused ≡ 0
     → unended (drop (c .feed .result .used) (now (c .before .before .before .before .args .part))) ≡ true
-clear c e = c .feed .ensures .dry e (le-ltb (length (c .feed .last .1 .1 .0) - c .feed .result .at) 0 (omega arith)) .0
+clear c e = c .feed .ensures .lineless e (le-ltb (length (c .feed .last .1 .1 .0) - c .feed .result .at) 0 (omega arith)) .0
 
 -- what is put after the part's lines ends the text
 ends : (c : tie.After-feed) → (let q = c .feed .result in let a = c .before .before .before .before .args in

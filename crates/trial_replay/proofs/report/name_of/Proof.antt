@@ -1,6 +1,6 @@
 -- `trial_replay::report::name_of` ends: each line begins behind the one before.
 -- Assumes nothing.
-use Prim.Native.Nat.{_≤_, _-_}
+use Prim.Native.Nat.{_-_}
 use borrow.Author.Needs.{needs}
 use lib.ListN.{length}
 use Rattle.trial_replay.proofs.report.name_of.Statement.{statement}
