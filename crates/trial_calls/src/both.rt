@@ -1,24 +1,15 @@
 // One call of the library and of the model on the same state, compared; and its entry into the ledger.
-use super::forms;
-use model::Entry;
+use model_calls::Entry;
 use plan::Plan;
 use regulator::Answer;
 use regulator::Counts;
 use regulator::State;
+use trial_kit::bytes::least;
 use trial_kit::tally::Verdict;
 use trial_kit::tally::both;
 use trial_kit::values;
-
-// A slot call: so many of the offers, and so many bytes lent, which hold `filled` before; or a yield.
-pub struct Call {
-    pub yields: bool,
-    pub offers: [u8; 18],
-    pub offered: usize,
-    pub lent: usize,
-    pub filled: u8,
-    pub domain: u64,
-    pub k: u64,
-}
+use trial_states::calls::Call;
+use trial_states::forms;
 
 // What the library answered, beside the model's refusal and whether all is the same.
 pub struct Outcome {
@@ -49,12 +40,9 @@ fn library_slot(
     verdicts: &mut [u8],
     lent: usize,
 ) -> Answer {
-    if offered <= offers.len() {
-        if lent <= verdicts.len() {
-            return regulator::slot(s, &offers[0..offered], &mut verdicts[0..lent]);
-        }
-    }
-    regulator::slot(s, offers, verdicts)
+    let given = least(offered, offers.len());
+    let size = least(lent, verdicts.len());
+    regulator::slot(s, &offers[0..given], &mut verdicts[0..size])
 }
 
 fn model_slot(
@@ -65,12 +53,9 @@ fn model_slot(
     lent: usize,
     counts: &mut [u64],
 ) -> u32 {
-    if offered <= offers.len() {
-        if lent <= verdicts.len() {
-            return model::slot(s, &offers[0..offered], &mut verdicts[0..lent], counts);
-        }
-    }
-    model::slot(s, offers, verdicts, counts)
+    let given = least(offered, offers.len());
+    let size = least(lent, verdicts.len());
+    model_calls::slot(s, &offers[0..given], &mut verdicts[0..size], counts)
 }
 
 // Whether the library's state and counts are those words.
@@ -99,54 +84,69 @@ pub fn same_bytes(a: [u8; 18], b: [u8; 18]) -> bool {
     check::same(&a, &b)
 }
 
-fn slot_call(s: State, c: Call) -> Outcome {
+// The model on the same slot call, compared with the library's answer and verdicts.
+fn slot_verdict(s: State, c: Call, a: Answer, told: [u8; 18]) -> Verdict {
     let mut words = [0u64; 153];
     let mut counts = [0u64; 153];
-    let mut mine = [c.filled; 18];
-    let mut theirs = [c.filled; 18];
-    let offers = c.offers;
+    let mut verdicts = [c.filled; 18];
     forms::put_state(&mut words, s);
+    let offers = c.offers;
     let number = model_slot(
         &mut words,
         &offers,
         c.offered,
-        &mut theirs,
+        &mut verdicts,
         c.lent,
         &mut counts,
     );
-    let a = library_slot(s, &offers, c.offered, &mut mine, c.lent);
     let state = a.state;
-    let told = a.counts;
+    let period = a.counts;
     let refusal = both(a.refused as u32 == number, a.complete == closes(s, &words));
-    let values = both(same_state(state, &words), same_counts(told, &counts));
-    let same = both(both(refusal, values), same_bytes(mine, theirs));
+    let values = both(same_state(state, &words), same_counts(period, &counts));
+    Verdict {
+        number,
+        same: both(both(refusal, values), same_bytes(told, verdicts)),
+    }
+}
+
+fn slot_call(s: State, c: Call) -> Outcome {
+    let mut verdicts = [c.filled; 18];
+    let offers = c.offers;
+    let a = library_slot(s, &offers, c.offered, &mut verdicts, c.lent);
+    let state = a.state;
+    let counts = a.counts;
     Outcome {
-        verdict: Verdict { number, same },
+        verdict: slot_verdict(s, c, a, verdicts),
         refused: a.refused != 0,
         place: 0,
         state,
-        verdicts: mine,
+        verdicts,
         complete: a.complete,
-        counts: told,
+        counts,
+    }
+}
+
+// The outcome of a call that tells neither verdicts nor counts.
+fn of_state(verdict: Verdict, refused: bool, place: u32, state: State) -> Outcome {
+    Outcome {
+        verdict,
+        refused,
+        place,
+        state,
+        verdicts: [0; 18],
+        complete: false,
+        counts: no_counts(),
     }
 }
 
 fn yield_call(s: State, c: Call) -> Outcome {
     let mut words = [0u64; 153];
     forms::put_state(&mut words, s);
-    let number = model::take_yield(&mut words, c.domain, c.k);
+    let number = model_calls::take_yield(&mut words, c.domain, c.k);
     let y = regulator::yield_claim(s, c.domain, c.k);
     let state = y.state;
     let same = both(y.refused as u32 == number, same_state(state, &words));
-    Outcome {
-        verdict: Verdict { number, same },
-        refused: y.refused != 0,
-        place: 0,
-        state,
-        verdicts: [0; 18],
-        complete: false,
-        counts: no_counts(),
-    }
+    of_state(Verdict { number, same }, y.refused != 0, 0, state)
 }
 
 pub fn answered(s: State, c: Call) -> Outcome {
@@ -162,37 +162,35 @@ pub fn opened(p: Plan, page: &mut [u64]) -> Outcome {
     let mut words = [0u64; 153];
     let domains = values::words(p);
     let period = values::wide(p.period);
-    let t = model::open(period, domains, &mut words);
+    let t = model_calls::open(period, domains, &mut words);
     let o = regulator::open(p);
     let state = o.state;
     let refusal = both(
         o.refused as u32 == t.number,
         values::wide(o.place) == t.place,
     );
-    model::begin(page, period, domains);
-    Outcome {
-        verdict: Verdict {
-            number: t.number,
-            same: both(refusal, same_state(state, &words)),
-        },
-        refused: o.refused != 0,
-        place: values::wide(o.place),
-        state,
-        verdicts: [0; 18],
-        complete: false,
-        counts: no_counts(),
-    }
+    model_calls::begin(page, period, domains);
+    let verdict = Verdict {
+        number: t.number,
+        same: both(refusal, same_state(state, &words)),
+    };
+    of_state(verdict, o.refused != 0, values::wide(o.place), state)
 }
 
-// Feeds the ledger a call, whether the library refused it, and what it told.
-pub fn entered(page: &mut [u64], c: Call, o: Outcome) -> Entry {
-    if c.yields {
-        return model::enter_yield(page, o.refused, c.domain, c.k);
-    }
+fn entered_slot(page: &mut [u64], c: Call, o: Outcome) -> Entry {
     let offers = c.offers;
     let verdicts = o.verdicts;
     let told = o.counts;
     let mut counts = [0u64; 153];
     forms::put_counts(&mut counts, told);
-    model::enter_slot(page, &offers, o.refused, &verdicts, o.complete, &counts)
+    model_calls::enter_slot(page, &offers, o.refused, &verdicts, o.complete, &counts)
+}
+
+// Feeds the ledger a call, whether the library refused it, and what it told.
+pub fn entered(page: &mut [u64], c: Call, o: Outcome) -> Entry {
+    if c.yields {
+        model_calls::enter_yield(page, o.refused, c.domain, c.k)
+    } else {
+        entered_slot(page, c, o)
+    }
 }

@@ -6,16 +6,13 @@ use seen::Seen;
 use trial_kit::draw;
 use trial_kit::tally;
 use trial_kit::values;
+use trial_states::styles;
 
 mod both;
-mod changes;
-mod draws;
-mod forms;
 mod report;
 mod run;
 mod script;
 mod seen;
-mod styles;
 
 const KINDS: u32 = 20;
 

@@ -1,18 +1,18 @@
 // A list of calls from an opened plan on, each given the state that the last one answered.
 use super::both;
-use super::both::Call;
 use super::both::Outcome;
-use super::changes;
-use super::draws;
 use super::seen;
 use super::seen::Seen;
-use super::styles::Style;
 use regulator::State;
 use trial_kit::draw;
 use trial_kit::styles;
 use trial_kit::tally;
 use trial_kit::tally::Tally;
 use trial_kit::tally::Verdict;
+use trial_states::calls::Call;
+use trial_states::changes;
+use trial_states::draws;
+use trial_states::styles::Style;
 
 // The state after the calls so far, and what was compared and seen.
 pub struct Run {
@@ -59,24 +59,38 @@ pub fn opened(r: Run, of: Case, o: Outcome) -> Run {
     }
 }
 
+// The run with one more verdict counted.
+fn counted(r: Run, of: Case, v: Verdict) -> Run {
+    let mut after = r;
+    let before = r.tally;
+    let with = tally::counted(before, of.kind, of.case, v);
+    after.tally = with;
+    after
+}
+
+// The run with a changed state more seen, and whether it still adds up.
+fn with_change_seen(r: Run, adds: bool) -> Run {
+    let mut after = r;
+    let so_far = r.seen;
+    let changed = seen::raised(so_far, seen::CHANGED, 1);
+    let seen = seen::raised(changed, seen::ADDING, if adds { 1 } else { 0 });
+    after.seen = seen;
+    after
+}
+
+fn drawn_call(s: State, of: Case, style: Style, seed: u32, yields: bool) -> Outcome {
+    both::answered(s, draws::call(s, style, of.seed, seed, yields))
+}
+
 // A slot call on a changed state, and a yield on what it answers; the run's own state stays.
 fn with_changed(r: Run, of: Case, style: Style, seed: u32) -> Run {
     let s = r.state;
-    let t = changes::changed(s, of.kind, seed);
-    let a = both::answered(t, draws::call(t, style, of.seed, seed, false));
-    let u = a.state;
-    let b = both::answered(u, draws::call(u, style, of.seed, draw::draw(seed, 4), true));
+    let a = drawn_call(changes::changed(s, of.kind, seed), of, style, seed, false);
+    let t = a.state;
+    let b = drawn_call(t, of, style, draw::draw(seed, 4), true);
     let v = a.verdict;
     let w = b.verdict;
-    let before = r.tally;
-    let so_far = r.seen;
-    let counted = seen::raised(so_far, seen::CHANGED, 1);
-    let between = tally::counted(before, of.kind, of.case, v);
-    Run {
-        state: s,
-        tally: tally::counted(between, of.kind, of.case, w),
-        seen: seen::raised(counted, seen::ADDING, if v.number == 30 { 0 } else { 1 }),
-    }
+    with_change_seen(counted(counted(r, of, v), of, w), v.number != 30)
 }
 
 fn step(r: Run, page: &mut [u64], of: Case, style: Style, i: u32) -> Run {

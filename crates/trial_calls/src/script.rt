@@ -12,9 +12,7 @@
 //   already closed NNNNNNNNNN       the state is given so many closed periods
 ghost use Prim.Native.Nat.{_≤_};
 use super::both;
-use super::both::Call;
 use super::both::Outcome;
-use super::forms;
 use super::run;
 use super::run::Case;
 use super::run::Run;
@@ -25,6 +23,8 @@ use trial_kit::lines;
 use trial_kit::report;
 use trial_kit::tally;
 use trial_kit::values;
+use trial_states::calls::Call;
+use trial_states::forms;
 
 // The kind of all stated cases.
 pub const STATED: u32 = 100;
@@ -184,14 +184,11 @@ fn with_plan(s: Script, p: Plan) -> Script {
 
 fn domain_line(s: Script, text: &[u8], at: usize) -> Script {
     let p = s.plan;
-    let k = (lines::small(text, at, 7, 2) + 15) % 16 * 4;
-    let one = values::with_word(p, k, 1);
-    let two = values::with_word(one, k + 1, lines::small(text, at, 10, 4));
-    let three = values::with_word(two, k + 2, lines::small(text, at, 15, 4));
-    with_plan(
-        s,
-        values::with_word(three, k + 3, lines::small(text, at, 20, 4)),
-    )
+    let n = lines::small(text, at, 7, 2) + 15;
+    let q = lines::small(text, at, 10, 4);
+    let r = lines::small(text, at, 15, 4);
+    let w = lines::small(text, at, 20, 4);
+    with_plan(s, values::with_numbers(p, n, q, r, w))
 }
 
 // The counts of the case at hand are printed, and the next begins.
@@ -217,21 +214,32 @@ fn case_line(s: Script, text: &[u8], at: usize) -> Script {
     after
 }
 
-fn line(s: Script, text: &[u8], at: usize, page: &mut [u64]) -> Script {
+fn plan_line(s: Script, text: &[u8], at: usize) -> Script {
+    with_plan(
+        s,
+        values::with_period(values::nothing(), lines::small(text, at, 5, 4)),
+    )
+}
+
+// A line that calls nothing.
+fn given_line(s: Script, text: &[u8], at: usize) -> Script {
     match lines::byte(text, at) {
         b'c' => case_line(s, text, at),
-        b'p' => with_plan(
-            s,
-            values::with_period(values::nothing(), lines::small(text, at, 5, 4)),
-        ),
+        b'p' => plan_line(s, text, at),
         b'd' => domain_line(s, text, at),
-        b'o' => open_line(s, text, at, page),
-        b's' => slot_line(s, text, at, page),
-        b'y' => yield_line(s, text, at, page),
         b't' => told_line(s, text, at),
         b'n' => stated(s, !s.complete),
         b'h' => has_line(s, text, at),
         _ => closed_line(s, text, at),
+    }
+}
+
+fn line(s: Script, text: &[u8], at: usize, page: &mut [u64]) -> Script {
+    match lines::byte(text, at) {
+        b'o' => open_line(s, text, at, page),
+        b's' => slot_line(s, text, at, page),
+        b'y' => yield_line(s, text, at, page),
+        _ => given_line(s, text, at),
     }
 }
 

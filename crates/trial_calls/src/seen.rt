@@ -1,7 +1,8 @@
 // What the runs came to: verdicts, slots and periods, so that a program that does nothing is noticed.
 use super::both::Outcome;
-use model::Entry;
+use model_calls::Entry;
 use regulator::Counts;
+use trial_kit::lines::say_nth;
 use trial_kit::report;
 use trial_kit::values;
 
@@ -90,26 +91,25 @@ pub fn with_call(seen: Seen, yields: bool, o: Outcome, e: Entry) -> Seen {
 }
 
 fn say_name(k: usize) {
-    match k {
-        0 => report::say(b"verdict 0"),
-        1 => report::say(b"verdict 1, slots granted"),
-        2 => report::say(b"verdict 2"),
-        3 => report::say(b"verdict 3"),
-        4 => report::say(b"verdict 4"),
-        5 => report::say(b"verdict 5"),
-        6 => report::say(b"verdict 6"),
-        7 => report::say(b"slots idle"),
-        8 => report::say(b"periods completed"),
-        9 => report::say(b"reclaimed passes in these"),
-        10 => report::say(b"writebacks in these"),
-        11 => report::say(
-            b"domains with a reservation that kept asking through a completed period",
-        ),
-        12 => report::say(b"sentences of demand 3 that did not hold"),
-        13 => report::say(b"changed states"),
-        14 => report::say(b"changed states that still add up"),
-        _ => report::say(b"outcomes stated as numbers"),
-    }
+    say_nth(
+        b"verdict 0\n\
+        verdict 1, slots granted\n\
+        verdict 2\n\
+        verdict 3\n\
+        verdict 4\n\
+        verdict 5\n\
+        verdict 6\n\
+        slots idle\n\
+        periods completed\n\
+        reclaimed passes in these\n\
+        writebacks in these\n\
+        domains with a reservation that kept asking through a completed period\n\
+        sentences of demand 3 that did not hold\n\
+        changed states\n\
+        changed states that still add up\n\
+        outcomes stated as numbers\n",
+        k,
+    );
 }
 
 pub fn lines(seen: Seen) {

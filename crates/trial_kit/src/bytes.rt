@@ -1,5 +1,5 @@
 // Bytes of files and lent buffers: put and filled.
-ghost use Prim.Native.Nat.{_<_};
+ghost use Prim.Native.Nat.{_<_, _≤_};
 use super::draw;
 
 // How bytes are filled: any, mostly zero, or as records whose fields are small.
@@ -8,6 +8,13 @@ pub const ANY: u32 = 0;
 pub const SPARSE: u32 = 1;
 
 pub const SMALL: u32 = 2;
+
+// How much of a buffer is lent where so much is asked for.
+pub fn least(a: usize, b: usize) -> usize
+    ensures { λ r. ⌜ r ≤ b ⌝ }
+{
+    if a < b { a } else { b }
+}
 
 pub fn put(file: &mut [u8], at: usize, b: u8) {
     if at < file.len() {

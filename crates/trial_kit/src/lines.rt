@@ -61,6 +61,25 @@ pub fn after_line(text: &[u8], from: usize) -> usize
     if from <= end { end + 1 } else { text.len() }
 }
 
+// Where line k of a text begins, from 0 on; the text's end where it has not so many.
+fn line_start(text: &[u8], k: usize) -> usize {
+    let mut left = k;
+    let mut at: usize = 0;
+    while at < text.len() {
+        if left == 0 {
+            return at;
+        }
+        left -= 1;
+        at = after_line(text, at);
+    }
+    at
+}
+
+// Prints line k of a text, from 0 on.
+pub fn say_nth(text: &[u8], k: usize) {
+    say_line(text, line_start(text, k));
+}
+
 // Prints a line from a place on.
 pub fn say_line(text: &[u8], from: usize) {
     let end = line_end(text, from);

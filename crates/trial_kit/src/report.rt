@@ -21,11 +21,19 @@ pub fn counts_line(t: Tally) {
 }
 
 // How often a refusal was told.
-pub fn told_line(t: Tally, number: u32) {
+fn told_line(t: Tally, number: u32) {
     let k = (number % 64) as usize;
     say_number(b"refusal ", number);
     say_number(b": told ", t.told[k]);
     say(b"\n");
+}
+
+pub fn told_lines(t: Tally, numbers: &[u32]) {
+    let mut k: usize = 0;
+    while k < numbers.len() {
+        told_line(t, numbers[k]);
+        k += 1;
+    }
 }
 
 pub fn total_line(t: Tally) {

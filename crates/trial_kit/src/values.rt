@@ -136,6 +136,15 @@ struct Draft {
     left: u32,
 }
 
+// The plan with domain n + 1, of these numbers.
+pub fn with_numbers(p: Plan, n: u32, q: u32, r: u32, w: u32) -> Plan {
+    let k = n % 16 * 4;
+    let present = with_word(p, k, 1);
+    let reserved = with_word(present, k + 1, q);
+    let capped = with_word(reserved, k + 2, r);
+    with_word(capped, k + 3, w)
+}
+
 fn with_domain(d: Draft, seed: u32, style: u32, n: u32) -> Draft {
     if left_out(seed, style, n) {
         return d;
@@ -144,21 +153,10 @@ fn with_domain(d: Draft, seed: u32, style: u32, n: u32) -> Draft {
     let p = d.plan;
     let period = wide(p.period);
     let q = quota(seed, style, n, left);
-    let k = n % 16 * 4;
-    let present = with_word(p, k, 1);
-    let reserved = with_word(present, k + 1, q);
-    let capped = with_word(
-        reserved,
-        k + 2,
-        amount(seed, std::num::wrapping_add_u32(n, 300), period),
-    );
-    let whole = with_word(
-        capped,
-        k + 3,
-        amount(seed, std::num::wrapping_add_u32(n, 400), period),
-    );
+    let r = amount(seed, std::num::wrapping_add_u32(n, 300), period);
+    let w = amount(seed, std::num::wrapping_add_u32(n, 400), period);
     Draft {
-        plan: whole,
+        plan: with_numbers(p, n, q, r, w),
         left: if q <= left { left - q } else { 0 },
     }
 }

@@ -1,13 +1,11 @@
 // The library and the model on one replay, or on one line.
-ghost use Prim.Native.Nat.{_≤_};
 use super::parts;
-use model::Ended;
+use model_replay::Ended;
 use script::Line;
+use trial_kit::bytes::least;
 use trial_kit::tally::Verdict;
 use trial_kit::tally::both;
-
-// The bytes of the buffers that texts are written to.
-pub const BUFFER: usize = 16384;
+use trial_scripts::cases::BUFFER;
 
 // What the model tells, the refusal and the periods closed, and whether the library does all as the model does.
 pub struct Outcome {
@@ -23,12 +21,6 @@ pub fn verdict(o: Outcome) -> Verdict {
     }
 }
 
-pub fn least(a: usize, b: usize) -> usize
-    ensures { λ r. ⌜ r ≤ b ⌝ }
-{
-    if a < b { a } else { b }
-}
-
 fn library_writes(file: &[u8], script: &[u8], out: &mut [u8], size: usize) -> usize {
     let lent = least(size, out.len());
     script::replay(file, script, &mut out[0..lent])
@@ -42,58 +34,90 @@ fn parts_write(file: &[u8], script: &[u8], out: &mut [u8], size: usize, seed: u8
 
 fn model_writes(file: &[u8], script: &[u8], out: &mut [u8], size: usize) -> Ended {
     let lent = least(size, out.len());
-    model::replay(file, script, &mut out[0..lent])
+    model_replay::replay(file, script, &mut out[0..lent])
+}
+
+// Whether the library writes a text of so many bytes into a buffer filled as that of the text.
+fn library_agrees(
+    file: &[u8],
+    script: &[u8],
+    size: usize,
+    filled: u8,
+    text: &[u8; 16384],
+    bytes: usize,
+) -> bool {
+    let mut out = [filled; 16384];
+    let written = library_writes(file, script, &mut out, size);
+    both(written == bytes, check::same(&out, text))
+}
+
+// The same, with the script in parts.
+fn parts_agree(
+    file: &[u8],
+    script: &[u8],
+    size: usize,
+    filled: u8,
+    text: &[u8; 16384],
+    bytes: usize,
+) -> bool {
+    let mut out = [filled; 16384];
+    let written = parts_write(file, script, &mut out, size, filled);
+    both(written == bytes, check::same(&out, text))
 }
 
 // The whole output, of the script whole and in parts, into equal buffers of which the first bytes are lent.
 pub fn replayed(file: &[u8], script: &[u8], size: usize, filled: u8) -> Outcome {
-    let mut a = [filled; 16384];
-    let mut b = [filled; 16384];
-    let mut c = [filled; 16384];
-    let bytes = library_writes(file, script, &mut a, size);
-    let parted = parts_write(file, script, &mut c, size, filled);
-    let e = model_writes(file, script, &mut b, size);
+    let mut text = [filled; 16384];
+    let e = model_writes(file, script, &mut text, size);
     Outcome {
         number: e.number,
         periods: (e.periods % 65536) as u32,
         same: both(
-            both(bytes == e.bytes, check::same(&a, &b)),
-            both(parted == e.bytes, check::same(&c, &b)),
+            library_agrees(file, script, size, filled, &text, e.bytes),
+            parts_agree(file, script, size, filled, &text, e.bytes),
         ),
     }
 }
 
 // The whole output of both, compared with a text that is stated.
 pub fn replayed_as(file: &[u8], script: &[u8], due: &[u8], filled: u8) -> Outcome {
-    let mut a = [filled; 16384];
-    let mut c = [filled; 16384];
+    let mut text = [filled; 16384];
+    let bytes = model_replay::text::put_text(&mut text, 0, due);
     let o = replayed(file, script, BUFFER, filled);
-    let bytes = library_writes(file, script, &mut a, BUFFER);
-    let all = model::text::put_text(&mut c, 0, due);
+    let as_due = library_agrees(file, script, BUFFER, filled, &text, bytes);
     Outcome {
         number: o.number,
         periods: o.periods,
-        same: both(o.same, both(bytes == all, check::same(&a, &c))),
+        same: both(o.same, as_due),
+    }
+}
+
+// Whether the model reads a line as one of the two forms.
+fn taken(form: u32) -> bool {
+    if form == model_replay::SLOT {
+        true
+    } else {
+        model_replay::is_yield(form)
     }
 }
 
 // Whether what the library read of a line is what the model read; offers it leaves untouched are those of before.
 fn same_line(
     l: Line,
-    m: model::Line,
+    m: model_replay::Line,
     offers: &[u8; 17],
     own: &[u8; 17],
     before: &[u8; 17],
 ) -> bool {
     match l {
-        Line::Slot => both(m.form == model::SLOT, check::same(offers, own)),
+        Line::Slot => both(m.form == model_replay::SLOT, check::same(offers, own)),
         Line::Yield { domain, count } => both(
-            both(model::is_yield(m.form), check::same(offers, before)),
+            both(model_replay::is_yield(m.form), check::same(offers, before)),
             both(domain == m.domain, count == m.k),
         ),
         Line::Bad(number) => both(
             both(number == 41, check::same(offers, before)),
-            both(m.form != model::SLOT, !model::is_yield(m.form)),
+            !taken(m.form),
         ),
     }
 }
@@ -104,14 +128,9 @@ pub fn line(text: &[u8], filled: u8) -> Outcome {
     let mut offers = [filled; 17];
     let mut own = [filled; 17];
     let l = script::read_line(text, &mut offers);
-    let m = model::read_line(text, &mut own);
-    let taken = if m.form == model::SLOT {
-        true
-    } else {
-        model::is_yield(m.form)
-    };
+    let m = model_replay::read_line(text, &mut own);
     Outcome {
-        number: if taken { 0 } else { 41 },
+        number: if taken(m.form) { 0 } else { 41 },
         periods: 0,
         same: same_line(l, m, &offers, &own, &before),
     }

@@ -1,24 +1,23 @@
 // Compares the texts of whole replays, the library's with the model's, on stated cases and on plan files and scripts that are
 // fixed by seeds, and prints what was compared.
-use cases::Case;
 use compare::Outcome;
+use trial_kit::bytes;
 use trial_kit::draw;
 use trial_kit::tally;
 use trial_kit::tally::Tally;
+use trial_scripts::cases;
+use trial_scripts::cases::Case;
+use trial_scripts::files;
+use trial_scripts::scripts;
 
-mod cases;
 mod compare;
-mod files;
-mod lines;
 mod parts;
 mod report;
-mod scripts;
 mod stated;
-mod wrong;
 
 fn compared(file: &[u8], script: &[u8], c: Case, filebytes: usize, bytes: usize) -> Outcome {
-    let a = compare::least(filebytes, file.len());
-    let b = compare::least(bytes, script.len());
+    let a = bytes::least(filebytes, file.len());
+    let b = bytes::least(bytes, script.len());
     let filled = draw::low(c.seed);
     if c.kind == cases::LINES {
         compare::line(&script[0..b], filled)
@@ -50,16 +49,27 @@ fn try_kind(names: &[u8], before: Tally, script: &mut [u8], kind: u32) -> Tally 
     t
 }
 
-fn main() {
-    let mut script = [0u8; 131072];
-    let mut given = io::large_buffer();
-    let bytes = io::read_full(0, &mut given);
-    let mut t = stated::cases(tally::start(), &given[..bytes], &mut script);
+fn try_kinds(names: &[u8], before: Tally, script: &mut [u8]) -> Tally {
+    let mut t = before;
     let mut kind: u32 = 0;
     while kind < cases::KINDS {
-        let next = try_kind(&given[..bytes], t, &mut script, kind);
+        let next = try_kind(names, t, script, kind);
         t = next;
         kind += 1;
     }
-    report::last_lines(&given[..bytes], t);
+    t
+}
+
+// The stated cases and those of all kinds, given the text that states them and names the kinds.
+fn try_all(given: &[u8]) {
+    let mut script = [0u8; 131072];
+    let before = stated::cases(tally::start(), given, &mut script);
+    let t = try_kinds(given, before, &mut script);
+    report::last_lines(given, t);
+}
+
+fn main() {
+    let mut given = io::large_buffer();
+    let bytes = io::read_full(0, &mut given);
+    try_all(&given[..bytes]);
 }

@@ -35,28 +35,9 @@ pub fn kind_line(given: &[u8], t: Tally, kind: u32, periods: u32) {
     counts_line(t, periods);
 }
 
-fn plan_lines(t: Tally) {
-    report::told_line(t, 1);
-    report::told_line(t, 2);
-    report::told_line(t, 3);
-    report::told_line(t, 4);
-    report::told_line(t, 5);
-    report::told_line(t, 6);
-    report::told_line(t, 7);
-    report::told_line(t, 8);
-    report::told_line(t, 9);
-    report::told_line(t, 10);
-}
-
 // The refusals, the total, and where something differed its first kind and case.
 pub fn last_lines(given: &[u8], t: Tally) {
-    plan_lines(t);
-    report::told_line(t, 21);
-    report::told_line(t, 22);
-    report::told_line(t, 23);
-    report::told_line(t, 32);
-    report::told_line(t, 33);
-    report::told_line(t, 41);
+    report::told_lines(t, &[1, 2, 3, 4, 5, 6, 7, 8, 9, 10, 21, 22, 23, 32, 33, 41]);
     if t.alldiffer != 0 {
         say(b"first difference: ");
         lines::say_line(given, name_of(given, t.firstkind));

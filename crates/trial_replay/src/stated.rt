@@ -11,14 +11,14 @@
 //   kind NAME                             no case: the name of a kind, in the order of the kinds
 use super::compare;
 use super::compare::Outcome;
-use super::lines::put_part;
 use super::report;
-use model::text;
+use model_replay::text;
 use trial_kit::bytes;
 use trial_kit::draw;
 use trial_kit::lines;
 use trial_kit::tally;
 use trial_kit::tally::Tally;
+use trial_scripts::lines::put_part;
 
 // The kind of all stated cases, behind the others.
 const STATED: u32 = 28;
@@ -67,6 +67,27 @@ fn put_byte(file: &mut [u8], given: &[u8], at: usize) {
     );
 }
 
+// A line of the plan file; answers the bytes it then has.
+fn put_in_file(file: &mut [u8], size: usize, given: &[u8], at: usize) -> usize {
+    match lines::byte(given, at) {
+        b'f' => put_record(file, size, given, at),
+        b's' => lines::small(given, at, 5, 4) as usize,
+        _ => {
+            put_byte(file, given, at);
+            size
+        }
+    }
+}
+
+// A line of the script; answers the bytes it then has.
+fn put_in_script(script: &mut [u8], size: usize, given: &[u8], at: usize) -> usize {
+    match lines::byte(given, at) {
+        b'>' => put_line(script, size, given, at),
+        b'+' => put_rest(script, size, given, at),
+        _ => text::put_byte(script, size, draw::low(lines::small(given, at, 5, 3))),
+    }
+}
+
 // A line that makes the plan file, the script or the text due.
 fn with_line(
     p: Stand,
@@ -78,16 +99,8 @@ fn with_line(
 ) -> Stand {
     let mut after = p;
     match lines::byte(given, at) {
-        b'f' => after.file = put_record(file, p.file, given, at),
-        b'a' => put_byte(file, given, at),
-        b's' => after.file = lines::small(given, at, 5, 4) as usize,
-        b'>' => after.script = put_line(script, p.script, given, at),
-        b'+' => after.script = put_rest(script, p.script, given, at),
-        b'b' => after.script = text::put_byte(
-            script,
-            p.script,
-            draw::low(lines::small(given, at, 5, 3)),
-        ),
+        b'f' | b'a' | b's' => after.file = put_in_file(file, p.file, given, at),
+        b'>' | b'+' | b'b' => after.script = put_in_script(script, p.script, given, at),
         b'<' => after.due = put_line(due, p.due, given, at),
         _ => {}
     }
@@ -95,9 +108,9 @@ fn with_line(
 }
 
 fn replayed(p: Stand, file: &[u8], script: &[u8], due: &[u8]) -> Outcome {
-    let a = compare::least(p.file, file.len());
-    let b = compare::least(p.script, script.len());
-    let c = compare::least(p.due, due.len());
+    let a = bytes::least(p.file, file.len());
+    let b = bytes::least(p.script, script.len());
+    let c = bytes::least(p.due, due.len());
     compare::replayed_as(&file[0..a], &script[0..b], &due[0..c], draw::low(p.case))
 }
 
@@ -122,19 +135,22 @@ fn next_case(p: Stand, at: usize) -> Stand {
     }
 }
 
-// The counts of the case at hand are printed, and the next begins.
-fn case_line(t: Tally, p: Stand, given: &[u8]) -> Tally {
-    if p.case > 0 {
-        lines::say_line(given, p.named);
-        report::counts_line(t, p.periods);
-    }
-    tally::next_kind(t)
-}
-
 // The tally and the stand after a line.
 struct Both {
     tally: Tally,
     stand: Stand,
+}
+
+// The counts of the case at hand are printed, and the next begins.
+fn case_line(t: Tally, p: Stand, given: &[u8], at: usize) -> Both {
+    if p.case > 0 {
+        lines::say_line(given, p.named);
+        report::counts_line(t, p.periods);
+    }
+    Both {
+        tally: tally::next_kind(t),
+        stand: next_case(p, at),
+    }
 }
 
 fn line(
@@ -148,10 +164,7 @@ fn line(
     let t = b.tally;
     let p = b.stand;
     match lines::byte(given, at) {
-        b'c' => Both {
-            tally: case_line(t, p, given),
-            stand: next_case(p, at),
-        },
+        b'c' => case_line(t, p, given, at),
         b'r' => run_line(t, p, replayed(p, file, script, due)),
         _ => Both {
             tally: t,

@@ -12,10 +12,10 @@ use lib.ListN.{length}
 use borrow.Author.Tests.{eq-eqb, ne-eqb, lt-ltb, le-ltb}
 use Rattle.table.specs.Sums.{nth}
 use Rattle.table.proofs.Tables.{miss, hit}
-use Rattle.regulator.specs.State.{begun, yielding}
+use Rattle.regulator.specs.State.{yielding}
 use Rattle.regulator.specs.Turn.{granted, verdicts}
-use Rattle.regulator.specs.Grant.{onClaim, onStock, onNeither, domainGrant, grant, onward}
-use Rattle.regulator.specs.Close.{countsOf, withoutCounts, ended}
+use Rattle.regulator.specs.Grant.{onClaim, onStock, onNeither, domainGrant, grant, onward, decidedOf}
+use Rattle.regulator.specs.Close.{withoutCounts, withCounts, ended}
 use Rattle.regulator.specs.Refusals.{slotRefusal, yieldRefusal}
 use Rattle.regulator.specs.Calls.{oneSlot, slotOf, verdictsIn, yieldOf}
 use Rattle.regulator.specs.declared.state.State.{State}
@@ -47,6 +47,21 @@ pub grant-stock : (s : State) (j : ℕ) (w : Bool) → nth (s .claim) j ≡ 0 �
 unfolding domainGrant
 grant-stock s j w h = miss _ _ _ (le-ltb 0 (nth (s .claim) j) (omega arith))
 
+-- a decided slot, by what is granted
+module _ (s : State) (o : List ℕ) where
+  pub decided-none : decidedOf s o 17 ≡ onward (onNeither s (s .idle + 1) (s .best)) 17
+  decided-none = ap (λ (t : State). onward t 17) (grant-none s o)
+
+  pub decided-best : decidedOf s o 0 ≡ onward (onNeither s (s .idle) (s .best + 1)) 0
+  decided-best = ap (λ (t : State). onward t 0) (grant-best s o)
+
+  module _ (j : ℕ) (h : j < 16) where
+    pub decided-claim : 0 < nth (s .claim) j → decidedOf s o (j + 1) ≡ onward (onClaim s j (eqb (nth o (j + 1)) 2)) (j + 1)
+    decided-claim c = ap (λ (t : State). onward t (j + 1)) (grant-domain s o j h ∙ grant-claim s j (eqb (nth o (j + 1)) 2) c)
+
+    pub decided-stock : nth (s .claim) j ≡ 0 → decidedOf s o (j + 1) ≡ onward (onStock s j (eqb (nth o (j + 1)) 2)) (j + 1)
+    decided-stock c = ap (λ (t : State). onward t (j + 1)) (grant-domain s o j h ∙ grant-stock s j (eqb (nth o (j + 1)) 2) c)
+
 -- a grant leaves T and the closed periods
 pub grant-time : (s : State) (o : List ℕ) (n : ℕ) → (grant s o n .decided ≡ s .decided) × (grant s o n .closed ≡ s .closed)
 unfolding grant domainGrant
@@ -73,8 +88,7 @@ module _ (s : State) where
   unfolding ended
   ended-open h = miss _ _ _ (ne-eqb (s .decided) (s .plan .period) h)
 
-  pub ended-complete : s .decided ≡ s .plan .period
-      → ended s ≡ record { refused = 0; state = begun (s .plan) (s .closed + 1) (s .turn); complete = true; counts = countsOf s }
+  pub ended-complete : s .decided ≡ s .plan .period → ended s ≡ withCounts s
   unfolding ended
   ended-complete h = hit _ _ _ (eq-eqb (s .decided) (s .plan .period) h)
 
@@ -91,7 +105,7 @@ module _ (s : State) (o : List ℕ) where
   unfolding slotOf
   slot-refused room h = miss _ _ _ (ne-eqb (slotRefusal s o room) 0 h)
 
-  pub slot-decided : (room : ℕ) → slotRefusal s o room ≡ 0 → slotOf s o room ≡ ended (onward (grant s o (granted s o)) (granted s o))
+  pub slot-decided : (room : ℕ) → slotRefusal s o room ≡ 0 → slotOf s o room ≡ ended (decidedOf s o (granted s o))
   unfolding slotOf oneSlot
   slot-decided room h = hit _ _ _ (eq-eqb (slotRefusal s o room) 0 h)
 

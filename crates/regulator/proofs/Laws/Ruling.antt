@@ -144,7 +144,7 @@ module _ (s : State) (o : List ℕ) where
     unfolding granted
     picked =
         ask-same (λ (n : ℕ). eqb (nth (rulings s o) n) 2) (passes s o)
-        (λ n q. ap (λ (v : ℕ). eqb v 2) (values-at (rulingOf s o) 17 n (omega arith))) (s .turn) 17 h
+        (λ n q. ap (λ (v : ℕ). eqb v 2) (values-at (rulingOf s o) 0 17 n (omega arith))) (s .turn) 17 h
 
     pub granted-most : granted s o ≤ 17
     unfolding granted
@@ -174,7 +174,7 @@ module _ (s : State) (o : List ℕ) where
 
   pub verdict-other : (n : ℕ) → n < 17 → n ≢ granted s o → nth (verdicts s o) n ≡ rulingOf s o n
   unfolding verdicts
-  verdict-other n h q = getD-set-other (rulings s o) (granted s o) n 1 0 q ∙ values-at (rulingOf s o) 17 n h
+  verdict-other n h q = getD-set-other (rulings s o) (granted s o) n 1 0 q ∙ values-at (rulingOf s o) 0 17 n h
 
   verdict-one : (n : ℕ) → n < 17 → n ≢ granted s o → eqb (nth (verdicts s o) n) 1 ≡ false
   verdict-one n h q = ne-eqb _ 1 (λ e. never-one n (sym (verdict-other n h q) ∙ e))

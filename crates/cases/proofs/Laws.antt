@@ -1,0 +1,2 @@
+-- The cases hold, and the premise is met.
+pub mod Examples

@@ -1,0 +1,2 @@
+-- What is computed of the cases.
+pub mod Laws

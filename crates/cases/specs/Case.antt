@@ -1,0 +1,62 @@
+-- A case: an input and its outcome, by the definitions that the calls promise to answer by.
+-- Assumes nothing.
+use Prim.Native.Nat.{ℕ}
+use mathlib.Core.List.{List, map}
+use mathlib.Core.Option.{Option}
+use lib.ListN.{length}
+use lib.IntN.{ℤ}
+use Rattle.plan.specs.Reading.{readPlan}
+use Rattle.plan.specs.Writing.{writePlan, written}
+use Rattle.plan.specs.declared.value.Plan.{Plan}
+use Rattle.plan.specs.declared.reading.Reading.{Reading}
+use Rattle.plan.specs.declared.writing.Writing.{Writing}
+use Rattle.regulator.specs.Verdict.{loose}
+use Rattle.regulator.specs.Calls.{openPlan}
+use Rattle.regulator.specs.declared.close.Counts.{Counts}
+use Rattle.script.specs.Line.{Meaning, meaningOf, offersIn}
+use Rattle.script.specs.Replay.{replayText}
+use Rattle.share.specs.Call.{Call}
+use Rattle.share.specs.Run.{Made, run}
+
+-- An input: a plan file that is read; a plan value that is written to a lent buffer; a plan file whose plan is opened, and calls from
+-- there on; a script line that is read, with a lent buffer; or a plan file and a script of the replay.
+pub data Input : Type 0 where
+  file : (bytes : List ℕ) → Input
+  value : Plan → (buffer : List ℕ) → Input
+  calls : (bytes : List ℕ) → List Call → Input
+  line : (bytes buffer : List ℕ) → Input
+  replayed : (bytes script : List ℕ) → Input
+
+-- What is shown of a call: 0 or the number of a refusal, what the lent buffer holds on return, the idle slots and loose of the state
+-- returned (loose before the next slot, that is), and the counts told.
+pub record Shown : Type 0 where
+  pub refused : ℕ
+  pub verdicts : List ℕ
+  pub idle : ℕ
+  pub loose : ℤ
+  pub counts : Option Counts
+
+-- An outcome: what reading answers; what writing answers, and the buffer; 0 or the number of a refusal of opening, and what is shown
+-- of each call; what a line means, and the buffer; or all that is printed.
+pub data Outcome : Type 0 where
+  reading : Reading → Outcome
+  writing : Writing → (buffer : List ℕ) → Outcome
+  answers : (refused : ℕ) → List Shown → Outcome
+  meaning : Meaning → (buffer : List ℕ) → Outcome
+  prints : List ℕ → Outcome
+
+abbrev shownOf : Made → Shown
+shownOf m = record { refused = m .refused; verdicts = m .shown; idle = m .state .idle; loose = loose (m .state); counts = m .counts }
+
+unfoldable pub outcomeOf : Input → Outcome
+outcomeOf (file bytes) = reading (readPlan bytes)
+outcomeOf (value p buffer) = writing (writePlan p (length buffer)) (written p buffer)
+outcomeOf (calls bytes cs) =
+    let o = openPlan (readPlan bytes .plan) in
+    answers (o .refused) (map (λ (m : Made). shownOf m) (run (o .state) cs))
+outcomeOf (line bytes buffer) = meaning (meaningOf bytes) (offersIn bytes buffer)
+outcomeOf (replayed bytes script) = prints (replayText bytes script)
+
+pub record Case : Type 0 where
+  pub input : Input
+  pub outcome : Outcome

@@ -1,0 +1,252 @@
+-- The starred cases of document 01, 'Plan A and its neighbours', whole bullets; its misreadings, and a few sentences more; and its
+-- script on plan A: one list of inputs and outcomes.
+-- Assumes nothing.
+use Prim.Native.Nat.{ℕ}
+use mathlib.Core.Path.{_≡_}
+use mathlib.Core.List.{List, [], _∷_, _++_, map}
+use mathlib.Core.Bool.{true, false}
+use mathlib.Core.Option.{none, some}
+use lib.ListN.{replicate}
+use lib.IntN.{ℤ, pos, negsuc}
+use Rattle.plan.specs.Reading.{refusedReading, acceptedReading}
+use Rattle.plan.specs.Writing.{refusedWriting}
+use Rattle.plan.specs.declared.value.Plan.{Plan}
+use Rattle.regulator.specs.declared.close.Counts.{Counts}
+use Rattle.script.specs.Line.{slotLine, yieldLine, badLine}
+use Rattle.script.specs.Text.{bytes}
+use Rattle.share.specs.Call.{Call, slot, yield}
+use Rattle.cases.specs.Case.{file, value, calls, line, replayed, Shown, Outcome, reading, writing, answers, meaning, prints, outcomeOf, Case}
+
+-- the bytes of record 0 and of a domain record, "each record filled with zeros"; `byte3` is 0 in a good one
+abbrev head : ℕ → ℕ → List ℕ
+head low high = low ∷ high ∷ 1 ∷ 0 ∷ replicate 12 0
+
+abbrev domain : ℕ → ℕ → ℕ → ℕ → ℕ → ℕ → List ℕ
+domain next number byte3 Q R W = next ∷ 0 ∷ number ∷ byte3 ∷ Q ∷ 0 ∷ R ∷ 0 ∷ W ∷ 0 ∷ replicate 6 0
+
+-- plan A: P 4; domain 1 has Q 2, R 1, W 4; domain 2 has Q 1, R 0, W 0
+abbrev pub planA : List ℕ
+planA = head 4 0 ++ (domain 2 1 0 2 1 4 ++ domain 0 2 0 1 0 0)
+
+-- plan A but for: the Q of domain 1; the next that record 2 names; the bytes of its period
+abbrev reserving : ℕ → List ℕ
+reserving Q = head 4 0 ++ (domain 2 1 0 Q 1 4 ++ domain 0 2 0 1 0 0)
+
+abbrev naming : ℕ → List ℕ
+naming next = head 4 0 ++ (domain 2 1 0 2 1 4 ++ domain next 2 0 1 0 0)
+
+abbrev lasting : ℕ → ℕ → List ℕ
+lasting low high = head low high ++ (domain 2 1 0 2 1 4 ++ domain 0 2 0 1 0 0)
+
+-- plan A with two faults in record 1: domain 0, and byte 3 set
+abbrev twoFaults : List ℕ
+twoFaults = head 4 0 ++ (domain 2 0 1 2 1 4 ++ domain 0 2 0 1 0 0)
+
+-- plan A with a record more, which is off the chain: domain 3, with a Q that brings the sum above P
+abbrev leftOver : List ℕ
+leftOver = planA ++ domain 0 3 0 4 0 0
+
+-- plan A but for the R of domain 2
+abbrev reclaiming : List ℕ
+reclaiming = head 4 0 ++ (domain 2 1 0 2 1 4 ++ domain 0 2 0 1 1 0)
+
+-- what plan A is read as, with another period or Q of domain 1
+abbrev valueOf : ℕ → ℕ → Plan
+valueOf P Q =
+    record {
+      period = P;
+      planned = true ∷ true ∷ replicate 14 false;
+      reservation = Q ∷ 1 ∷ replicate 14 0;
+      reclaimcap = 1 ∷ replicate 15 0;
+      writebackcap = 4 ∷ replicate 15 0;
+    }
+
+abbrev accepted : ℕ → ℕ → Outcome
+accepted P Q = reading (acceptedReading (valueOf P Q))
+
+abbrev refused : ℕ → ℕ → Outcome
+refused n place = reading (refusedReading n place)
+
+-- seventeen numbers, of which those of 0, 1 and 2 are given
+abbrev three : ℕ → ℕ → ℕ → List ℕ
+three a b c = a ∷ b ∷ c ∷ replicate 14 0
+
+-- a lent buffer of nines
+abbrev nines : List ℕ
+nines = replicate 17 9
+
+-- a slot in which 0, 1 and 2 make these offers
+abbrev pub offer : ℕ → ℕ → ℕ → Call
+offer a b c = slot (three a b c) nines
+
+-- a slot: the verdicts of 0, 1 and 2, then idle slots and loose
+abbrev told : ℕ → ℕ → ℕ → ℕ → ℤ → Shown
+told a b c idle loose = record { refused = 0; verdicts = three a b c; idle = idle; loose = loose; counts = none }
+
+-- a slot that completes a period of plan A: the verdicts, and the counts; loose of the next period starts at 4 − 3
+abbrev completes : ℕ → ℕ → ℕ → Counts → Shown
+completes a b c counts = record { refused = 0; verdicts = three a b c; idle = 0; loose = pos 1; counts = some counts }
+
+-- a call on the fresh plan A that is refused, and what its lent buffer holds; loose stays 4 − 3
+abbrev refusedCall : ℕ → List ℕ → Shown
+refusedCall n buffer = record { refused = n; verdicts = buffer; idle = 0; loose = pos 1; counts = none }
+
+-- a yield before any idle slot: 0 or a refusal, and loose
+abbrev yields : ℕ → ℤ → Shown
+yields n loose = record { refused = n; verdicts = []; idle = 0; loose = loose; counts = none }
+
+-- counts without idle slots and writebacks: best effort, then reserved, reclaimed and yielded of domain 1; domain 2 has `2:1+0-0w0`
+abbrev countsWith : (best reserved reclaimed yielded : ℕ) → Counts
+countsWith best reserved reclaimed yielded =
+    record {
+      idle = 0;
+      best = best;
+      reserved = reserved ∷ 1 ∷ replicate 14 0;
+      reclaimed = reclaimed ∷ replicate 15 0;
+      yielded = yielded ∷ replicate 15 0;
+      writebacks = replicate 16 0;
+    }
+
+-- the counts of four idle slots, in a period in which domain 1 yielded 1
+abbrev idleCounts : Counts
+idleCounts =
+    record {
+      idle = 4;
+      best = 0;
+      reserved = replicate 16 0;
+      reclaimed = replicate 16 0;
+      yielded = 1 ∷ replicate 15 0;
+      writebacks = replicate 16 0;
+    }
+
+-- "four times `s 11100000000000000`, then `y 1 1`, three times the same slot line, then `s 01000000000000000`"
+abbrev pub script : List Call
+script = replicate 4 (offer 1 1 1) ++ (yield 1 1 ∷ (replicate 3 (offer 1 1 1) ++ (offer 0 1 0 ∷ [])))
+
+-- the same as the replay's script, and all of its output
+abbrev scriptText : List ℕ
+scriptText =
+    bytes
+    "s 11100000000000000\ns 11100000000000000\ns 11100000000000000\ns 11100000000000000\ny 1 1\ns 11100000000000000\ns 11100000000000000\ns 11100000000000000\ns 01000000000000000\n"
+
+abbrev outputText : List ℕ
+outputText = bytes "period idle best domains\n1 0 1 1:2+0-0w0 2:1+0-0w0\n2 0 1 1:1+1-1w0 2:1+0-0w0\nopen 0\n"
+
+abbrev pub cases : List Case
+cases =
+    -- a: "empty file: 1"
+    record { input = file []; outcome = refused 1 0 }
+    -- b: "plan A is accepted. P 4,096 passes, 4,097 is 2."
+    ∷ record { input = file planA; outcome = accepted 4 2 }
+    ∷ record { input = file (lasting 0 16); outcome = accepted 4096 2 }
+    ∷ record { input = file (lasting 1 16); outcome = refused 2 0 }
+    -- c: "record 2 names 1 as next: 5 at 1"
+    ∷ record { input = file (naming 1); outcome = refused 5 1 }
+    -- d: "it names 3: 4 at 3. Two faults, domain 0 and byte 3 set: 6."
+    ∷ record { input = file (naming 3); outcome = refused 4 3 }
+    ∷ record { input = file twoFaults; outcome = refused 6 1 }
+    -- e: "Q of domain 1 = 3 is accepted (3 + 1 = 4)"
+    ∷ record { input = file (reserving 3); outcome = accepted 4 3 }
+    -- f: "4 is 10 at 0; 5 is 9 at 1"
+    ∷ record { input = file (reserving 4); outcome = refused 10 0 }
+    ∷ record { input = file (reserving 5); outcome = refused 9 1 }
+    -- g: "fresh, numbers 0, 1, 2 offer accesses in four slots: verdicts of 0, 1, 2 are 1 2 2; 6 1 2; 6 2 1; 6 1 4"
+    ∷ record {
+      input = calls planA (replicate 4 (offer 1 1 1));
+      outcome =
+          answers 0
+          (told 1 2 2 0 (pos 0) ∷ told 6 1 2 0 (pos 0) ∷ told 6 2 1 0 (pos 0) ∷ completes 6 1 4 (countsWith 1 2 0 0) ∷ []);
+    }
+    -- h: "fresh, only domain 1 offers accesses in three slots: 1, 1, then 5 and an idle slot"
+    ∷ record {
+      input = calls planA (replicate 3 (offer 0 1 0));
+      outcome = answers 0 (told 0 1 0 0 (pos 1) ∷ told 0 1 0 0 (pos 1) ∷ told 0 5 0 1 (pos 0) ∷ []);
+    }
+    -- i: "fresh, two idle slots, then 0 and 2 offer accesses: loose is −1, verdicts 6 and 1" (−1 is `negsuc 0`)
+    ∷ record {
+      input = calls planA (offer 0 0 0 ∷ offer 0 0 0 ∷ offer 1 0 1 ∷ []);
+      outcome = answers 0 (told 0 0 0 1 (pos 0) ∷ told 0 0 0 2 (negsuc 0) ∷ told 6 0 1 2 (negsuc 0) ∷ []);
+    }
+    -- j: "0 alone there: 1"
+    ∷ record {
+      input = calls planA (offer 0 0 0 ∷ offer 0 0 0 ∷ offer 1 0 0 ∷ []);
+      outcome = answers 0 (told 0 0 0 1 (pos 0) ∷ told 0 0 0 2 (negsuc 0) ∷ told 1 0 0 2 (negsuc 1) ∷ []);
+    }
+    -- k: "fresh, domain 2 offers a writeback: 3"
+    ∷ record { input = calls planA (offer 0 0 2 ∷ []); outcome = answers 0 (told 0 0 3 1 (pos 0) ∷ []) }
+    -- l: "fresh, domain 1 yields 3: 23; 2 is taken"
+    ∷ record { input = calls planA (yield 1 3 ∷ yield 1 2 ∷ []); outcome = answers 0 (yields 23 (pos 1) ∷ yields 0 (pos 3) ∷ []) }
+    -- 'Misreadings to rule out': "Summing Q over records off the chain"
+    ∷ record { input = file leftOver; outcome = accepted 4 2 }
+    -- "A reclaimed pass that also lowers the yielder's claim": domain 1 keeps its claim of 1, so loose is 2 − 1 in the end
+    ∷ record {
+      input = calls reclaiming (yield 1 1 ∷ offer 0 0 1 ∷ offer 0 0 1 ∷ []);
+      outcome = answers 0 (yields 0 (pos 2) ∷ told 0 0 1 0 (pos 2) ∷ told 0 0 1 0 (pos 1) ∷ []);
+    }
+    -- "Stock carried into the next period": what domain 1 yields in one period is not there in the next
+    ∷ record {
+      input = calls planA (yield 1 1 ∷ (replicate 4 (offer 0 0 0) ++ replicate 3 (offer 0 1 0)));
+      outcome =
+          answers 0
+          (yields 0 (pos 2)
+          ∷ told 0 0 0 1 (pos 1)
+          ∷ told 0 0 0 2 (pos 0)
+          ∷ told 0 0 0 3 (negsuc 0)
+          ∷ completes 0 0 0 idleCounts
+          ∷ told 0 1 0 0 (pos 1)
+          ∷ told 0 1 0 0 (pos 1)
+          ∷ told 0 5 0 1 (pos 0)
+          ∷ []);
+    }
+    -- "With none, the slot is idle .. and the turn remains": it is at 2 before the idle slot and after it
+    ∷ record {
+      input = calls planA (offer 0 1 1 ∷ offer 0 0 0 ∷ offer 0 1 1 ∷ []);
+      outcome = answers 0 (told 0 1 2 0 (pos 1) ∷ told 0 0 0 1 (pos 0) ∷ told 0 2 1 1 (pos 0) ∷ []);
+    }
+    -- 32 "an offer byte above 2"; 22 "k is 0"; "Nothing lent changes"
+    ∷ record { input = calls planA (offer 3 0 0 ∷ yield 1 0 ∷ []); outcome = answers 0 (refusedCall 32 nines ∷ refusedCall 22 [] ∷ []) }
+    -- "Writing .. touches nothing behind the last record, and answers the bytes written"; of a refusal "Nothing lent changes"
+    ∷ record {
+      input = value (valueOf 4 2) (replicate 50 9);
+      outcome = writing (record { refused = 0; place = 0; bytes = 48 }) (planA ++ replicate 2 9);
+    }
+    ∷ record { input = value (valueOf 4 5) (replicate 50 9); outcome = writing (refusedWriting 9 1) (replicate 50 9) }
+    -- "Slot: `s `, then 17 decimal digits"; "one to four decimal digits (k). Leading zeros are allowed."
+    ∷ record { input = line (bytes "s 31100000000000000") nines; outcome = meaning (slotLine (three 3 1 1)) (three 3 1 1) }
+    ∷ record { input = line (bytes "y 01 0001") nines; outcome = meaning (yieldLine 1 1) nines }
+    ∷ record { input = line (bytes "y 1 00001") nines; outcome = meaning (badLine 41) nines }
+    -- the script, whose fifth slot shows "The turn put back to 0 at each period": `1 0 1 1:2+0-0w0 2:1+0-0w0`, `2 0 1 1:1+1-1w0 2:1+0-0w0`
+    ∷ record {
+      input = calls planA script;
+      outcome =
+          answers 0
+          (told 1 2 2 0 (pos 0)
+          ∷ told 6 1 2 0 (pos 0)
+          ∷ told 6 2 1 0 (pos 0)
+          ∷ completes 6 1 4 (countsWith 1 2 0 0)
+          ∷ yields 0 (pos 2)
+          ∷ told 2 2 1 0 (pos 2)
+          ∷ told 1 2 4 0 (pos 1)
+          ∷ told 2 1 4 0 (pos 1)
+          ∷ completes 0 1 0 (countsWith 1 1 1 1)
+          ∷ []);
+    }
+    -- "All of the output"
+    ∷ record { input = replayed planA scriptText; outcome = prints outputText }
+    -- "`number:reserved+reclaimed-yieldedwwritebacks`", of a domain that yields 2 and takes 1 back
+    ∷ record {
+      input =
+          replayed planA
+          (bytes "y 1 2\ns 01100000000000000\ns 01100000000000000\ns 01100000000000000\ns 01100000000000000\n");
+      outcome = prints (bytes "period idle best domains\n1 2 0 1:0+1-2w0 2:1+0-0w0\nopen 0\n");
+    }
+    -- "A refused line prints `line L refused N` (L from 1) after what stands printed and ends the run without `open`"
+    ∷ record {
+      input = replayed planA (bytes "s 31100000000000000\ns 11100000000000000\n");
+      outcome = prints (bytes "period idle best domains\nline 1 refused 32\n");
+    }
+    ∷ []
+
+-- the claim: each input has its outcome
+abbrev pub Starred : Type 0
+Starred = map (λ (c : Case). outcomeOf (c .input)) cases ≡ map (λ (c : Case). c .outcome) cases

@@ -1,0 +1,33 @@
+-- The premise of the exact share can be met: in document 01's script on plan A domain 1 keeps asking in both completed periods.
+-- Assumes nothing.
+use Prim.Native.Nat.{ℕ}
+use mathlib.Core.Path.{_≡_}
+use mathlib.Core.List.{List}
+use Rattle.table.specs.Sums.{nth}
+use Rattle.plan.specs.Reading.{readPlan}
+use Rattle.plan.specs.declared.value.Plan.{Plan}
+use Rattle.regulator.specs.Calls.{openPlan}
+use Rattle.share.specs.Call.{Call}
+use Rattle.share.specs.Ledger.{Period, blank, moments}
+use Rattle.share.specs.Run.{run}
+use Rattle.share.specs.Share.{Some, KeepsAsking, feeds}
+use Rattle.cases.specs.Cases.{planA, script}
+
+-- A period that is completed, in which the domain at index j keeps asking: of its reservation it yields some and passes
+-- the rest on its claim.
+pub record Met (j reservation yielded passes : ℕ) (q : Period) : Type 0 where
+  pub completed : q .page .decided ≡ q .plan .period
+  pub asking : KeepsAsking (q .plan) j (q .slots)
+  pub reserved : nth (q .plan .reservation) j ≡ reservation
+  pub gives : nth (q .page .yielded) j ≡ yielded
+  pub takes : nth (q .page .passes) j ≡ passes
+
+-- the periods of calls on a plan, as the ledger has them
+abbrev pub periodsOf : Plan → List Call → List Period
+periodsOf p cs = moments (blank p) (feeds (run (openPlan p .state) cs))
+
+-- in one period it yields nothing and passes 2, in the other it yields 1 and passes 1
+abbrev pub PremiseMet : Type 0
+PremiseMet =
+    Some (Met 0 2 0 2) (periodsOf (readPlan planA .plan) script)
+    × Some (Met 0 2 1 1) (periodsOf (readPlan planA .plan) script)

@@ -1,0 +1,26 @@
+-- `model_calls::verdict::some_wait` asks sixteen domains and ends.
+-- Assumes nothing.
+use Prim.Native.Nat.{_≤_, _-_}
+use borrow.Author.Needs.{needs}
+use Rattle.model_calls.proofs.verdict.some_wait.Statement.{statement}
+use Rattle.model_calls.proofs.verdict.some_wait.Tie as tie
+
+abbrev Inv-loop : tie.InvT-loop
+Inv-loop s offers n₀ n = n ≤ 17
+
+abbrev μ-loop : tie.MeasureT-loop
+μ-loop s offers n₀ n = 17 - n
+
+pub some-wait-spec : {M : Type 1} → statement M
+some-wait-spec =
+    tie.close
+    (tie.spec
+    Inv-loop
+    μ-loop
+    (λ c. search needs)
+    (λ c κs. search needs)
+    (λ c. search needs)
+    (λ c. search needs)
+    (λ c. search needs)
+    (λ c. search needs)
+    (λ c. search needs))

@@ -1,0 +1,205 @@
+// The calls of a regulator whose state is lent as flat words and changed in place.
+ghost use Prim.Native.Nat.{_<_, _≤_};
+use super::cells;
+use super::sums;
+use super::verdict;
+
+// Opens a plan: its state, or all zeros where it is refused.
+pub fn open(period: u32, domains: [u32; 64], s: &mut [u64]) -> model_plans::Told {
+    let told = model_plans::check(period, domains);
+    cells::clear(s);
+    if told.number != 0 {
+        return told;
+    }
+    cells::put_plan(s, period, domains);
+    cells::start_period(s);
+    told
+}
+
+// 30 or 34, or 0.
+fn state_refusal(s: &[u64]) -> u32 {
+    if sums::adds_up(s) {
+        if cells::get(s, 0, cells::CLOSED) == 4294967295 {
+            34
+        } else {
+            0
+        }
+    } else {
+        30
+    }
+}
+
+// Whether one of the offers is above 2, or else from a domain that is not planned.
+fn any_bad(s: &[u64], offers: &[u8], above: bool) -> bool {
+    let mut n: usize = 0;
+    while n < 17 {
+        if bad_offer(s, offers, n, above) {
+            return true;
+        }
+        n += 1;
+    }
+    false
+}
+
+fn bad_offer(s: &[u64], offers: &[u8], n: usize, above: bool) -> bool {
+    if above {
+        return verdict::offer(offers, n) > 2;
+    }
+    if n == 0 {
+        return false;
+    }
+    if cells::get(s, n, cells::PRESENT) == 0 {
+        verdict::offer(offers, n) != 0
+    } else {
+        false
+    }
+}
+
+fn slot_refusal(s: &[u64], offers: &[u8], lent: usize) -> u32 {
+    let number = state_refusal(s);
+    if number != 0 {
+        return number;
+    }
+    if offers.len() != 17 {
+        return 31;
+    }
+    if lent != 17 {
+        return 31;
+    }
+    if any_bad(s, offers, true) {
+        return 32;
+    }
+    if any_bad(s, offers, false) { 33 } else { 0 }
+}
+
+// A domain's pass, on its claim or else from the stock.
+fn pass(s: &mut [u64], n: usize) {
+    if cells::get(s, n, cells::CLAIM) > 0 {
+        cells::take(s, n, cells::CLAIM, 1);
+        cells::add(s, n, cells::RESERVED, 1);
+    } else {
+        cells::take(s, 0, cells::STOCK, 1);
+        cells::add(s, n, cells::RECLAIMED, 1);
+    }
+}
+
+// Enters the granted number, or the idle slot.
+fn enter(s: &mut [u64], offers: &[u8], chosen: usize) {
+    cells::add(s, 0, cells::DECIDED, 1);
+    if chosen >= verdict::NOBODY {
+        cells::add(s, 0, cells::IDLE, 1);
+        return;
+    }
+    cells::put(s, 0, cells::TURN, (chosen as u64 + 1) % 17);
+    if chosen == 0 {
+        cells::add(s, 0, cells::BEST, 1);
+        return;
+    }
+    pass(s, chosen);
+    if verdict::offer(offers, chosen) == 2 {
+        cells::add(s, chosen, cells::WRITEBACKS, 1);
+    }
+}
+
+fn less(a: u64, b: u64) -> u64 {
+    if b <= a { a - b } else { 0 }
+}
+
+// Puts a domain's counts; reserved is told from what is left over.
+fn put_domain_counts(s: &[u64], counts: &mut [u64], n: usize) {
+    let yielded = cells::get(s, n, cells::YIELDED);
+    let used = less(cells::get(s, n, cells::Q), cells::get(s, n, cells::CLAIM));
+    cells::put(counts, n, cells::RESERVED, less(used, yielded));
+    cells::put(
+        counts,
+        n,
+        cells::RECLAIMED,
+        cells::get(s, n, cells::RECLAIMED),
+    );
+    cells::put(counts, n, cells::YIELDED, yielded);
+    cells::put(
+        counts,
+        n,
+        cells::WRITEBACKS,
+        cells::get(s, n, cells::WRITEBACKS),
+    );
+}
+
+// Puts the counts of a period whose slots are all decided; idle is told from what is left over.
+fn put_counts(s: &[u64], counts: &mut [u64]) {
+    let passes = cells::total(s, cells::RESERVED) + cells::total(s, cells::RECLAIMED);
+    let best = cells::get(s, 0, cells::BEST);
+    let others = less(cells::get(s, 0, cells::PERIOD), passes);
+    cells::put(counts, 0, cells::BEST, best);
+    cells::put(counts, 0, cells::IDLE, less(others, best));
+    let mut n: usize = 1;
+    while n <= 16 {
+        put_domain_counts(s, counts, n);
+        n += 1;
+    }
+}
+
+fn decide(s: &mut [u64], offers: &[u8], verdicts: &mut [u8]) {
+    let chosen = verdict::granted(s, offers);
+    verdict::put_verdicts(s, offers, chosen, verdicts);
+    enter(s, offers, chosen);
+}
+
+// Closes a period: puts its counts, and starts the next.
+fn close(s: &mut [u64], counts: &mut [u64]) {
+    put_counts(s, counts);
+    cells::add(s, 0, cells::CLOSED, 1);
+    cells::start_period(s);
+}
+
+// Decides a slot, or tells its refusal. The counts are all 0 where none are told.
+pub fn slot(s: &mut [u64], offers: &[u8], verdicts: &mut [u8], counts: &mut [u64]) -> u32 {
+    cells::clear(counts);
+    let number = slot_refusal(s, offers, verdicts.len());
+    if number != 0 {
+        return number;
+    }
+    decide(s, offers, verdicts);
+    if cells::get(s, 0, cells::DECIDED) >= cells::get(s, 0, cells::PERIOD) {
+        close(s, counts);
+    }
+    0
+}
+
+fn yield_refusal(s: &[u64], domain: u64, k: u64) -> u32 {
+    let number = state_refusal(s);
+    if number != 0 {
+        return number;
+    }
+    if domain == 0 {
+        return 21;
+    }
+    if domain > 16 {
+        return 21;
+    }
+    let n = domain as usize;
+    if cells::get(s, n, cells::PRESENT) == 0 {
+        return 21;
+    }
+    if k == 0 {
+        return 22;
+    }
+    if k > cells::get(s, n, cells::CLAIM) {
+        23
+    } else {
+        0
+    }
+}
+
+// Takes a yield, or tells its refusal.
+pub fn take_yield(s: &mut [u64], domain: u64, k: u64) -> u32 {
+    let number = yield_refusal(s, domain, k);
+    if number != 0 {
+        return number;
+    }
+    let n = domain as usize;
+    cells::take(s, n, cells::CLAIM, k);
+    cells::add(s, n, cells::YIELDED, k);
+    cells::add(s, 0, cells::STOCK, k);
+    0
+}

@@ -1,0 +1,155 @@
+// Flat words in lent slices: seventeen rows of nine, row 0 for the period and rows 1 to 16 for the domains.
+ghost use Prim.Native.Nat.{_<_, _≤_};
+use model_plans::words;
+
+pub const ROWS: usize = 17;
+
+pub const WORDS: usize = 153;
+
+// The columns of row 0.
+pub const PERIOD: usize = 0;
+
+pub const DECIDED: usize = 1;
+
+pub const CLOSED: usize = 2;
+
+pub const IDLE: usize = 3;
+
+pub const BEST: usize = 4;
+
+pub const STOCK: usize = 5;
+
+pub const TURN: usize = 6;
+
+// The columns of a domain's row.
+pub const PRESENT: usize = 0;
+
+pub const Q: usize = 1;
+
+pub const R: usize = 2;
+
+pub const W: usize = 3;
+
+pub const CLAIM: usize = 4;
+
+pub const RESERVED: usize = 5;
+
+pub const RECLAIMED: usize = 6;
+
+pub const YIELDED: usize = 7;
+
+pub const WRITEBACKS: usize = 8;
+
+// A word, 0 where the slice has none. What no 32 bits hold reads as the most that they hold: no number of a state that
+// adds up comes near it, and sums of such words are plain.
+pub fn get(s: &[u64], row: usize, column: usize) -> u64
+    ensures { λ r. ⌜ r < 4294967296 ⌝ }
+{
+    if row < ROWS {
+        if column < 9 {
+            let at = 9 * row + column;
+            return at_most_32_bits(if at < s.len() { s[at] } else { 0 });
+        }
+    }
+    0
+}
+
+fn at_most_32_bits(x: u64) -> u64
+    ensures { λ r. ⌜ r < 4294967296 ⌝ }
+{
+    if x < 4294967296 { x } else { 4294967295 }
+}
+
+pub fn put(s: &mut [u64], row: usize, column: usize, value: u64) {
+    if row < ROWS {
+        if column < 9 {
+            let at = 9 * row + column;
+            if at < s.len() {
+                s[at] = value;
+            }
+        }
+    }
+}
+
+pub fn add(s: &mut [u64], row: usize, column: usize, amount: u64) {
+    let now = get(s, row, column);
+    put(s, row, column, std::num::wrapping_add_u64(now, amount));
+}
+
+pub fn take(s: &mut [u64], row: usize, column: usize, amount: u64) {
+    let now = get(s, row, column);
+    put(s, row, column, std::num::wrapping_sub_u64(now, amount));
+}
+
+// The sum of a column over the sixteen domains.
+pub fn total(s: &[u64], column: usize) -> u64
+    ensures { λ r. ⌜ r < 68719476736 ⌝ }
+{
+    let mut sum: u64 = 0;
+    let mut n: usize = 0;
+    while n < 16 {
+        sum += get(s, n + 1, column);
+        n += 1;
+    }
+    sum
+}
+
+// Puts a plan's words where the state and the ledger have them: the period, and the columns up to W.
+pub fn put_plan(s: &mut [u64], period: u32, domains: [u32; 64]) {
+    put(s, 0, PERIOD, words::wider(period));
+    let mut k: u32 = 0;
+    while k < 64 {
+        let row = (k / 4 + 1) as usize;
+        let column = (k % 4) as usize;
+        put(
+            s,
+            row,
+            column,
+            words::wider(words::word(domains, k / 4 + 1, k % 4)),
+        );
+        k += 1;
+    }
+}
+
+// The plan's words, read back.
+pub fn plan_of(s: &[u64]) -> [u32; 64] {
+    let mut domains = [0u32; 64];
+    let mut k: usize = 0;
+    while k < 64 {
+        domains[k] = get(s, k / 4 + 1, k % 4) as u32;
+        k += 1;
+    }
+    domains
+}
+
+// Starts a domain's period: its claim from Q, and the other words of the period at 0.
+fn start_domain(s: &mut [u64], n: usize) {
+    let quota = get(s, n, Q);
+    put(s, n, CLAIM, quota);
+    put(s, n, RESERVED, 0);
+    put(s, n, RECLAIMED, 0);
+    put(s, n, YIELDED, 0);
+    put(s, n, WRITEBACKS, 0);
+}
+
+// Starts a period: all words of the period but the turn.
+pub fn start_period(s: &mut [u64]) {
+    put(s, 0, DECIDED, 0);
+    put(s, 0, IDLE, 0);
+    put(s, 0, BEST, 0);
+    put(s, 0, STOCK, 0);
+    let mut n: usize = 1;
+    while n <= 16 {
+        start_domain(s, n);
+        n += 1;
+    }
+}
+
+// Sets every word to 0.
+pub fn clear(s: &mut [u64]) {
+    let mut k: usize = 0;
+    while k < s.len() {
+        s[k] = 0;
+        k += 1;
+    }
+}

@@ -1,0 +1,282 @@
+// The ledger of document 01: fed the plan, the calls, whether each was refused, and the verdicts; never a state.
+// Its page has the rows and columns of `cells`: in row 0 the period, slots decided, idle and best effort; in a domain's
+// row Q, R, W, claim left, passes on claim, reclaimed, yielded and writebacks, and in column 0 whether it kept asking.
+ghost use Prim.Native.Nat.{_+_, _<_, _≤_};
+use super::cells;
+use super::verdict;
+use model_plans::words;
+
+const ASKING: usize = 0;
+
+// What an entry showed: whether it completed a period, how many domains with a reservation above 0 kept asking through
+// that period, and how many sentences of demand 3 did not hold.
+pub struct Entry {
+    pub complete: bool,
+    pub asked: u32,
+    pub faults: u32,
+}
+
+pub fn begin(page: &mut [u64], period: u32, domains: [u32; 64]) {
+    cells::clear(page);
+    cells::put_plan(page, period, domains);
+    start_page(page);
+}
+
+fn start_page(page: &mut [u64]) {
+    cells::start_period(page);
+    let mut n: usize = 1;
+    while n <= 16 {
+        cells::put(page, n, ASKING, 1);
+        n += 1;
+    }
+}
+
+// Whether a domain passed at most Q less what it yielded, and R.
+fn within(page: &[u64], n: usize) -> bool {
+    let yielded = cells::get(page, n, cells::YIELDED);
+    let passes = cells::get(page, n, cells::RESERVED) + cells::get(page, n, cells::RECLAIMED);
+    let reservation = cells::get(page, n, cells::Q);
+    if yielded > reservation {
+        return false;
+    }
+    passes <= reservation - yielded + cells::get(page, n, cells::R)
+}
+
+// The faults of a page at any moment: a domain above its bound, or more reclaimed than yielded.
+fn bounds(page: &[u64]) -> u32
+    ensures { λ r. ⌜ r ≤ 17 ⌝ }
+{
+    let mut faults = words::one_if(
+        cells::total(page, cells::RECLAIMED) > cells::total(page, cells::YIELDED),
+    );
+    let mut n: usize = 1;
+    while n <= 16 {
+        faults += words::one_if(!within(page, n));
+        n += 1;
+    }
+    faults
+}
+
+// The entry of a call that completes no period.
+fn open_entry(page: &[u64], faults: u32) -> Entry
+    requires { ⌜ faults ≤ 3 ⌝ }
+    ensures { λ r. ⌜ r .faults ≤ 20 ⌝ }
+{
+    Entry {
+        complete: false,
+        asked: 0,
+        faults: faults + bounds(page),
+    }
+}
+
+// A yield of k: from the claim left to the yielded.
+pub fn enter_yield(page: &mut [u64], refused: bool, domain: u64, k: u64) -> Entry {
+    if refused {
+        return open_entry(page, 0);
+    }
+    let n = if domain <= 16 {
+        domain as usize
+    } else {
+        cells::ROWS
+    };
+    let short = k > cells::get(page, n, cells::CLAIM);
+    cells::take(page, n, cells::CLAIM, k);
+    cells::add(page, n, cells::YIELDED, k);
+    open_entry(page, words::one_if(short))
+}
+
+// Whether a domain with claim left offers an access, or a writeback while below its writeback cap.
+fn asks(page: &[u64], offers: &[u8], n: usize) -> bool {
+    if cells::get(page, n, cells::CLAIM) == 0 {
+        return true;
+    }
+    match verdict::offer(offers, n) {
+        1 => true,
+        2 => cells::get(page, n, cells::WRITEBACKS) < cells::get(page, n, cells::W),
+        _ => false,
+    }
+}
+
+// Marks the domains that did not ask in a slot, before its entry.
+fn mark_asking(page: &mut [u64], offers: &[u8]) {
+    let mut n: usize = 1;
+    while n <= 16 {
+        let kept = if asks(page, offers, n) {
+            cells::get(page, n, ASKING)
+        } else {
+            0
+        };
+        cells::put(page, n, ASKING, kept);
+        n += 1;
+    }
+}
+
+// The first number from one on with verdict 1, or 17.
+fn next_one(verdicts: &[u8], from: usize) -> usize {
+    let mut n = from;
+    while n < 17 {
+        if verdict::offer(verdicts, n) == 1 {
+            return n;
+        }
+        n += 1;
+    }
+    17
+}
+
+// A domain's pass: on its claim left, or else reclaimed.
+fn enter_pass(page: &mut [u64], n: usize) {
+    if cells::get(page, n, cells::CLAIM) > 0 {
+        cells::take(page, n, cells::CLAIM, 1);
+        cells::add(page, n, cells::RESERVED, 1);
+    } else {
+        cells::add(page, n, cells::RECLAIMED, 1);
+    }
+}
+
+// Enters verdict 1 at a number, or at none: 17.
+fn enter_grant(page: &mut [u64], offers: &[u8], n: usize) {
+    if n == 0 {
+        cells::add(page, 0, cells::BEST, 1);
+        return;
+    }
+    if n > 16 {
+        cells::add(page, 0, cells::IDLE, 1);
+        return;
+    }
+    enter_pass(page, n);
+    if verdict::offer(offers, n) == 2 {
+        cells::add(page, n, cells::WRITEBACKS, 1);
+    }
+}
+
+// What is told for a word of the page: idle, best effort, and a domain's passes, reclaimed, yielded and writebacks, where
+// a period is complete.
+fn count_due(page: &[u64], k: usize, complete: bool) -> u64 {
+    let row = k / 9;
+    let column = k % 9;
+    let first = if row == 0 {
+        cells::IDLE
+    } else {
+        cells::RESERVED
+    };
+    let last = if row == 0 {
+        cells::BEST
+    } else {
+        cells::WRITEBACKS
+    };
+    if column < first {
+        return 0;
+    }
+    if column > last {
+        return 0;
+    }
+    if complete {
+        cells::get(page, row, column)
+    } else {
+        0
+    }
+}
+
+// Whether counts are told just where a period completes, and are the page's.
+fn counts_agree(page: &[u64], complete: bool, told: bool, counts: &[u64]) -> bool {
+    let mut k: usize = 0;
+    while k < cells::WORDS {
+        if cells::get(counts, k / 9, k % 9) != count_due(page, k, complete) {
+            return false;
+        }
+        k += 1;
+    }
+    told == complete
+}
+
+// What a completed period comes to: how many domains with a reservation kept asking, and how many of those that kept
+// asking did not pass on claim exactly Q less what they yielded.
+struct Shares {
+    asked: u32,
+    faults: u32,
+}
+
+fn kept_asking(page: &[u64], n: usize, and: bool) -> bool {
+    if cells::get(page, n, ASKING) == 1 {
+        and
+    } else {
+        false
+    }
+}
+
+fn settled(page: &[u64]) -> Shares
+    ensures { λ r. ⌜ r .faults ≤ 16 ⌝ }
+{
+    let mut asked: u32 = 0;
+    let mut faults: u32 = 0;
+    let mut n: usize = 1;
+    while n <= 16 {
+        let quota = cells::get(page, n, cells::Q);
+        asked += words::one_if(kept_asking(page, n, quota > 0));
+        faults += words::one_if(kept_asking(
+            page,
+            n,
+            cells::get(page, n, cells::RESERVED) + cells::get(page, n, cells::YIELDED) != quota,
+        ));
+        n += 1;
+    }
+    Shares { asked, faults }
+}
+
+// Enters a decided slot, and tells as a fault a second verdict 1.
+fn enter_decided(page: &mut [u64], offers: &[u8], verdicts: &[u8]) -> u32
+    ensures { λ r. ⌜ r ≤ 1 ⌝ }
+{
+    mark_asking(page, offers);
+    cells::add(page, 0, cells::DECIDED, 1);
+    let n = next_one(verdicts, 0);
+    enter_grant(page, offers, n);
+    if n < 17 {
+        words::one_if(next_one(verdicts, n + 1) < 17)
+    } else {
+        0
+    }
+}
+
+// The entry of a call that completes a period, and the next page.
+fn closed_entry(page: &mut [u64], faults: u32) -> Entry
+    requires { ⌜ faults ≤ 3 ⌝ }
+{
+    let entry = open_entry(page, faults);
+    let shared = settled(page);
+    start_page(page);
+    Entry {
+        complete: true,
+        asked: shared.asked,
+        faults: entry.faults + shared.faults,
+    }
+}
+
+// Whether the counts told are not those due, as a fault.
+fn untrue_counts(page: &[u64], complete: bool, told: bool, counts: &[u64]) -> u32
+    ensures { λ r. ⌜ r ≤ 1 ⌝ }
+{
+    words::one_if(!counts_agree(page, complete, told, counts))
+}
+
+// A slot call: its offers, whether it was refused, its verdicts, whether counts were told, and which.
+pub fn enter_slot(
+    page: &mut [u64],
+    offers: &[u8],
+    refused: bool,
+    verdicts: &[u8],
+    told: bool,
+    counts: &[u64],
+) -> Entry {
+    if refused {
+        return open_entry(page, untrue_counts(page, false, told, counts));
+    }
+    let second = enter_decided(page, offers, verdicts);
+    let complete = cells::get(page, 0, cells::DECIDED) == cells::get(page, 0, cells::PERIOD);
+    let faults = second + untrue_counts(page, complete, told, counts);
+    if complete {
+        closed_entry(page, faults)
+    } else {
+        open_entry(page, faults)
+    }
+}

@@ -1,0 +1,58 @@
+// Whether a state adds up, recomputed by plain addition.
+ghost use Prim.Native.Nat.{_<_, _≤_};
+use super::cells;
+
+// Whether a domain's own numbers fit each other; those of an absent one, whose caps and Q are 0, are then all 0.
+fn domain_fits(s: &[u64], n: usize) -> bool {
+    let reserved = cells::get(s, n, cells::RESERVED);
+    let reclaimed = cells::get(s, n, cells::RECLAIMED);
+    let writebacks = cells::get(s, n, cells::WRITEBACKS);
+    let shares = cells::get(s, n, cells::CLAIM) + reserved + cells::get(s, n, cells::YIELDED);
+    if shares != cells::get(s, n, cells::Q) {
+        return false;
+    }
+    if reclaimed > cells::get(s, n, cells::R) {
+        return false;
+    }
+    if writebacks > cells::get(s, n, cells::W) {
+        return false;
+    }
+    writebacks <= reserved + reclaimed
+}
+
+fn domains_fit(s: &[u64]) -> bool {
+    let mut n: usize = 1;
+    while n <= 16 {
+        if domain_fits(s, n) {
+            n += 1;
+        } else {
+            return false;
+        }
+    }
+    true
+}
+
+pub fn adds_up(s: &[u64]) -> bool {
+    let period = cells::get(s, 0, cells::PERIOD);
+    let decided = cells::get(s, 0, cells::DECIDED);
+    let reclaimed = cells::total(s, cells::RECLAIMED);
+    let others = cells::get(s, 0, cells::IDLE) + cells::get(s, 0, cells::BEST);
+    if decided >= period {
+        return false;
+    }
+    if cells::get(s, 0, cells::TURN) > 16 {
+        return false;
+    }
+    if cells::get(s, 0, cells::STOCK) + reclaimed != cells::total(s, cells::YIELDED) {
+        return false;
+    }
+    if others + cells::total(s, cells::RESERVED) + reclaimed != decided {
+        return false;
+    }
+    if domains_fit(s) {
+        let told = model_plans::check(period as u32, cells::plan_of(s));
+        told.number == 0
+    } else {
+        false
+    }
+}

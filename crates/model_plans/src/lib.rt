@@ -1,0 +1,92 @@
+// A second implementation of plans, made plain and slow to compare the library with. A plan is a period and flat words: those
+// of domain n (1 to 16) stand at 4 * (n - 1): present (0 or 1), reservation Q, reclaim cap R, writeback cap W.
+mod chain;
+mod layout;
+mod record;
+pub mod words;
+
+// What reading a file tells: number 0 where it is accepted; on a refusal the period and all words are 0.
+pub struct Answer {
+    pub number: u32,
+    pub place: u32,
+    pub period: u32,
+    pub domains: [u32; 64],
+}
+
+// What checking or writing a plan held as words tells; a refusal has 0 bytes.
+pub struct Told {
+    pub number: u32,
+    pub place: u32,
+    pub bytes: u32,
+}
+
+fn refused(number: u32, place: u32) -> Answer {
+    Answer {
+        number,
+        place,
+        period: 0,
+        domains: [0; 64],
+    }
+}
+
+pub fn read(file: &[u8]) -> Answer {
+    let opening = record::opening(file);
+    if opening != 0 {
+        return refused(opening, 0);
+    }
+    let period = record::number(file, 0, 0);
+    let walked = chain::walk(file, period);
+    if walked.number != 0 {
+        return refused(walked.number, walked.place);
+    }
+    let domains = walked.domains;
+    let totals = words::count(period, domains);
+    if totals.reservation > words::wider(period) {
+        return refused(10, 0);
+    }
+    Answer {
+        number: 0,
+        place: 0,
+        period,
+        domains,
+    }
+}
+
+pub fn check(period: u32, domains: [u32; 64]) -> Told {
+    if period == 0 {
+        return outcome(2, 0, 0);
+    }
+    if period > 4096 {
+        return outcome(2, 0, 0);
+    }
+    let totals = words::count(period, domains);
+    if totals.lowestbad != 0 {
+        return outcome(9, totals.lowestbad, 0);
+    }
+    if totals.reservation > words::wider(period) {
+        return outcome(10, 0, 0);
+    }
+    outcome(0, 0, 0)
+}
+
+fn outcome(number: u32, place: u32, bytes: u32) -> Told {
+    Told {
+        number,
+        place,
+        bytes,
+    }
+}
+
+pub fn write(period: u32, domains: [u32; 64], buffer: &mut [u8]) -> Told {
+    let checked = check(period, domains);
+    if checked.number != 0 {
+        return checked;
+    }
+    let totals = words::count(period, domains);
+    let bytes = 16 * (1 + totals.present);
+    if layout::put_all(period, domains, bytes, buffer) {
+        outcome(0, 0, bytes)
+    } else {
+        outcome(51, 0, 0)
+    }
+}

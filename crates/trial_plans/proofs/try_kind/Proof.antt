@@ -1,0 +1,29 @@
+-- `trial_plans::try_kind` tries a kind's cases one after the other, and ends.
+-- Assumes nothing.
+use Prim.Native.Nat.{_≤_, _-_}
+use borrow.Author.Needs.{needs}
+use Rattle.trial_plans.proofs.try_kind.Statement.{statement}
+use Rattle.trial_plans.proofs.try_kind.Tie as tie
+
+abbrev Inv-loop : tie.InvT-loop
+Inv-loop kind counts₀ most case₀ counts case = case ≤ most
+
+abbrev μ-loop : tie.MeasureT-loop
+μ-loop kind counts₀ most case₀ counts case = most - case
+
+pub try-kind-spec : {M : Type 1} → statement M
+try-kind-spec =
+    tie.close
+    (tie.spec
+    Inv-loop
+    μ-loop
+    (λ c κs. search needs)
+    (λ c κs. search needs)
+    (λ c. search needs)
+    (λ c κs. search needs)
+    (λ c κs. search needs)
+    (λ c. search needs)
+    (λ c. search needs)
+    (λ c. search needs)
+    (λ c κs. search needs)
+    (λ c. search needs))

@@ -1,0 +1,93 @@
+// A plan laid into a file as a chain of records in any order.
+ghost use Prim.Native.Nat.{_≤_};
+use plan::Plan;
+use trial_kit::bytes;
+use trial_kit::draw;
+use trial_kit::values;
+
+// What a file was laid with: its records, its period, how many domains are on the chain and the record of each.
+pub struct Chain {
+    pub records: u32,
+    pub period: u32,
+    pub domains: u32,
+    pub order: [u32; 64],
+}
+
+// The record at a position of the chain, from 0.
+pub fn record_at(order: [u32; 64], position: u32) -> u32
+    ensures { λ r. ⌜ r ≤ 64 ⌝ }
+{
+    1 + draw::entry(order, position)
+}
+
+// How far the chain is laid: the records in use, of how many, and the last of them.
+struct Laid {
+    used: u32,
+    most: u32,
+    last: u32,
+}
+
+// Where a record has its link.
+pub fn link_offset(record: u32) -> u32 {
+    if record == 0 { 2 } else { 0 }
+}
+
+// The record of a domain, with no link behind it.
+fn put_domain(file: &mut [u8], p: Plan, record: u32, domain: u32) {
+    let k = domain % 16 * 4;
+    let q = values::word(p, k + 1);
+    let r = values::word(p, k + 2);
+    let w = values::word(p, k + 3);
+    bytes::put_record(file, record, 0, domain % 16 + 1, q, r, w);
+}
+
+// Lays one domain at the chain's end, if it is planned and a record is left.
+fn with_domain(file: &mut [u8], p: Plan, order: [u32; 64], l: Laid, domain: u32) -> Laid {
+    let used = l.used;
+    if values::word(p, domain % 16 * 4) == 0 {
+        return l;
+    }
+    if used < l.most {
+        let index = record_at(order, used);
+        bytes::put_pair(file, l.last, link_offset(l.last), index);
+        put_domain(file, p, index, domain);
+        Laid {
+            used: used + 1,
+            most: l.most,
+            last: index,
+        }
+    } else {
+        l
+    }
+}
+
+// Lays a plan into so many records, those off the chain left as they are. The chain's order and its records are drawn.
+pub fn lay(file: &mut [u8], p: Plan, records: u32, seed: u32) -> Chain {
+    let most = if records == 0 { 0 } else { records - 1 };
+    let order = draw::shuffled(seed, 500, most);
+    let domains = draw::shuffled(seed, 600, 16);
+    let period = values::wide(p.period);
+    bytes::put_record(file, 0, period, 0, 0, 0, 0);
+    let used = lay_domains(file, p, order, domains, most);
+    Chain {
+        records,
+        period,
+        domains: used,
+        order,
+    }
+}
+
+fn lay_domains(file: &mut [u8], p: Plan, order: [u32; 64], domains: [u32; 64], most: u32) -> u32 {
+    let mut l = Laid {
+        used: 0,
+        most,
+        last: 0,
+    };
+    let mut n: u32 = 0;
+    while n < 16 {
+        let next = with_domain(file, p, order, l, draw::entry(domains, n));
+        l = next;
+        n += 1;
+    }
+    l.used
+}

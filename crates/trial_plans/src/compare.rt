@@ -1,0 +1,179 @@
+// The library and the model on one file, or on one plan held as a value and a lent buffer.
+use model_plans::Answer;
+use model_plans::Told;
+use plan::Plan;
+use plan::Reading;
+use plan::Writing;
+use trial_kit::bytes;
+use trial_kit::tally::Verdict;
+use trial_kit::tally::both;
+use trial_kit::values;
+
+// The bytes of the longest file that is tried, and of the buffers that plans are written to.
+pub const LONGEST: u32 = 1040;
+
+pub const BUFFER: u32 = 320;
+
+fn wide8(x: u8) -> u32 {
+    x as u32
+}
+
+fn all3(a: bool, b: bool, c: bool) -> bool {
+    both(both(a, b), c)
+}
+
+pub fn same_answers(a: Answer, b: Answer) -> bool {
+    let words = a.domains;
+    let others = b.domains;
+    let refusal = both(a.number == b.number, a.place == b.place);
+    all3(
+        refusal,
+        a.period == b.period,
+        values::same_words(words, others),
+    )
+}
+
+// A reading of the library's in the model's form.
+fn answer(r: Reading) -> Answer {
+    let p = r.plan;
+    let domains = values::words(p);
+    Answer {
+        number: wide8(r.refused),
+        place: values::wide(r.place),
+        period: values::wide(p.period),
+        domains,
+    }
+}
+
+fn same_writing(w: Writing, t: Told) -> bool {
+    let bytes = t.bytes as usize;
+    all3(
+        wide8(w.refused) == t.number,
+        values::wide(w.place) == t.place,
+        w.bytes == bytes,
+    )
+}
+
+fn same_check(p: Plan, period: u32, domains: [u32; 64]) -> bool {
+    let r = plan::check(p);
+    let t = model_plans::check(period, domains);
+    all3(
+        wide8(r.refused) == t.number,
+        values::wide(r.place) == t.place,
+        t.bytes == 0,
+    )
+}
+
+// What reading back a plan that was written has to answer: the plan, or the refusal of writing.
+fn expected(t: Told, period: u32, domains: [u32; 64]) -> Answer {
+    if t.number == 0 {
+        Answer {
+            number: 0,
+            place: 0,
+            period,
+            domains,
+        }
+    } else {
+        Answer {
+            number: t.number,
+            place: t.place,
+            period: 0,
+            domains: [0; 64],
+        }
+    }
+}
+
+fn library_writes(p: Plan, buffer: &mut [u8], size: usize) -> Writing {
+    let lent = bytes::least(size, buffer.len());
+    plan::write(p, &mut buffer[0..lent])
+}
+
+fn model_writes(period: u32, domains: [u32; 64], buffer: &mut [u8], size: usize) -> Told {
+    let lent = bytes::least(size, buffer.len());
+    model_plans::write(period, domains, &mut buffer[0..lent])
+}
+
+fn library_returns(p: Plan, buffer: &mut [u8], size: usize) -> Reading {
+    let lent = bytes::least(size, buffer.len());
+    plan::write_and_read(p, &mut buffer[0..lent])
+}
+
+// What the model reads in the first bytes of a buffer.
+fn model_reads(buffer: &[u8], size: usize) -> Answer {
+    let first = bytes::least(size, buffer.len());
+    model_plans::read(&buffer[0..first])
+}
+
+// Whether the plan comes back from what the library wrote, where it was not refused.
+fn comes_back(buffer: &[u8; 320], t: Told, want: Answer) -> bool {
+    if t.number == 0 {
+        same_answers(model_reads(buffer, t.bytes as usize), want)
+    } else {
+        true
+    }
+}
+
+fn filled(seed: u32) -> [u8; 320] {
+    let mut buffer = [0u8; 320];
+    bytes::fill(&mut buffer, BUFFER, seed, bytes::ANY);
+    buffer
+}
+
+// Writing, into equal buffers of which the first bytes are lent.
+fn written(p: Plan, domains: [u32; 64], size: usize, seed: u32) -> Verdict {
+    let mut a = filled(seed);
+    let mut b = filled(seed);
+    let period = values::wide(p.period);
+    let w = library_writes(p, &mut a, size);
+    let t = model_writes(period, domains, &mut b, size);
+    let back = comes_back(&a, t, expected(t, period, domains));
+    Verdict {
+        number: t.number,
+        same: all3(same_writing(w, t), check::same(&a, &b), back),
+    }
+}
+
+// Writing and reading back, in the same way.
+fn returned(p: Plan, domains: [u32; 64], size: usize, seed: u32) -> bool {
+    let mut a = filled(seed);
+    let mut b = filled(seed);
+    let period = values::wide(p.period);
+    let r = library_returns(p, &mut a, size);
+    let t = model_writes(period, domains, &mut b, size);
+    both(
+        same_answers(answer(r), expected(t, period, domains)),
+        check::same(&a, &b),
+    )
+}
+
+// A plan held as a value: checked, written and read back, with so many bytes lent.
+pub fn value(p: Plan, size: u32, seed: u32) -> Verdict {
+    let domains = values::words(p);
+    let lent = size as usize;
+    let w = written(p, domains, lent, seed);
+    let checked = same_check(p, values::wide(p.period), domains);
+    Verdict {
+        number: w.number,
+        same: all3(checked, w.same, returned(p, domains, lent, seed)),
+    }
+}
+
+// A file: read, and where it is accepted, the plan written and read back.
+pub fn file(file: &[u8], seed: u32) -> Verdict {
+    let r = plan::read(file);
+    let a = model_plans::read(file);
+    let same = same_answers(answer(r), a);
+    if a.number == 0 {
+        let p = r.plan;
+        let back = value(p, BUFFER, seed);
+        Verdict {
+            number: 0,
+            same: both(same, back.same),
+        }
+    } else {
+        Verdict {
+            number: a.number,
+            same,
+        }
+    }
+}

@@ -1,0 +1,114 @@
+// Faults put into a file that was laid well.
+use super::chain;
+use super::chain::Chain;
+use trial_kit::bytes;
+use trial_kit::draw;
+
+// The faults by number: 8 of a link, then 5 of a domain number, 7 of a byte that has to be zero, 9 of Q, R and W.
+pub const LINKS: u32 = 0;
+
+pub const NUMBERS: u32 = 8;
+
+pub const UNLISTED: u32 = 13;
+
+pub const AMOUNTS: u32 = 20;
+
+pub const ALL: u32 = 29;
+
+// Where a link leads: mostly to no record or back on the chain, now and then where it may.
+fn bad_link(c: Chain, record: u32, fault: u32, seed: u32) -> u32 {
+    let order = c.order;
+    match fault {
+        0 => c.records,
+        1 => 64,
+        2 => 65535,
+        3 => record,
+        4 => chain::record_at(order, draw::upto(seed, 700, c.domains)),
+        5 => 0,
+        6 => draw::upto(seed, 701, c.records),
+        _ => draw::upto(seed, 702, 65535),
+    }
+}
+
+// 0, 17, 255, the number that another record has, or any.
+fn bad_number(fault: u32, other: u8, seed: u32) -> u8 {
+    match fault {
+        8 => 0,
+        9 => 17,
+        10 => 255,
+        11 => other,
+        _ => draw::low(draw::upto(seed, 703, 255)),
+    }
+}
+
+// Byte 3, or one of 10 to 15.
+fn unlisted_offset(fault: u32) -> u32 {
+    match fault {
+        14..=19 => fault - 4,
+        _ => 3,
+    }
+}
+
+// P, P + 1 or the largest.
+fn bad_amount(period: u32, which: u32) -> u32 {
+    match which {
+        0 => period,
+        1 => if period < 65535 { period + 1 } else { period },
+        _ => 65535,
+    }
+}
+
+fn damage_number(file: &mut [u8], c: Chain, record: u32, fault: u32, seed: u32) {
+    let other = bytes::get(file, bytes::place(record_on_chain(c, seed, 705), 2));
+    let number = bad_number(fault, other, seed);
+    bytes::put(file, bytes::place(record, 2), number);
+}
+
+fn damage_unlisted(file: &mut [u8], record: u32, fault: u32, seed: u32) {
+    let b = draw::low(1 + draw::upto(seed, 704, 254));
+    bytes::put(file, bytes::place(record, unlisted_offset(fault)), b);
+}
+
+// One of Q, R and W put to one of three.
+fn damage_amount(file: &mut [u8], period: u32, record: u32, which: u32) {
+    let k = which % 9;
+    bytes::put_pair(file, record, 4 + k / 3 * 2, bad_amount(period, k % 3));
+}
+
+// Puts a fault into a record; in record 0 a fault of a link alone.
+pub fn damage(file: &mut [u8], c: Chain, record: u32, fault: u32, seed: u32) {
+    if fault < NUMBERS {
+        let link = bad_link(c, record, fault, seed);
+        bytes::put_pair(file, record, chain::link_offset(record), link);
+        return;
+    }
+    if fault < UNLISTED {
+        damage_number(file, c, record, fault, seed);
+        return;
+    }
+    if fault < AMOUNTS {
+        damage_unlisted(file, record, fault, seed);
+        return;
+    }
+    damage_amount(file, c.period, record, fault - AMOUNTS);
+}
+
+// A record of the chain; record 1 or another off it where the chain is empty.
+pub fn record_on_chain(c: Chain, seed: u32, salt: u32) -> u32 {
+    let order = c.order;
+    let domains = c.domains;
+    if domains == 0 {
+        return chain::record_at(order, 0);
+    }
+    chain::record_at(order, draw::upto(seed, salt, domains - 1))
+}
+
+// A record that a fault may go into: one of the chain, and for a fault of a link now and then record 0.
+pub fn record_for(c: Chain, fault: u32, seed: u32, salt: u32) -> u32 {
+    if fault < NUMBERS {
+        if draw::upto(seed, 706, c.domains) == 0 {
+            return 0;
+        }
+    }
+    record_on_chain(c, seed, salt)
+}

@@ -1,0 +1,51 @@
+// The lines that are printed.
+use trial_kit::lines;
+use trial_kit::report;
+use trial_kit::report::say;
+use trial_kit::tally::Tally;
+
+fn say_name(kind: u32) {
+    lines::say_nth(
+        b"plan A and its neighbours\n\
+        files of every length\n\
+        periods\n\
+        bytes 4 to 15 of record 0\n\
+        chains in any order\n\
+        links\n\
+        domain numbers\n\
+        byte 3 and bytes 10 to 15\n\
+        Q, R and W around P\n\
+        sums of Q around P, and 65,536\n\
+        two faults in one record\n\
+        two faults in any records\n\
+        one byte of a good file\n\
+        random bytes\n\
+        sparse bytes\n\
+        records of small fields\n\
+        plan values that are accepted\n\
+        plan values with one number damaged\n\
+        plan values with a number in an absent domain\n\
+        plan values with several faults\n\
+        plan values with sums around P, and 65,536\n\
+        plan values of any period\n\
+        plan values in buffers of each length\n",
+        kind as usize,
+    );
+}
+
+pub fn kind_line(t: Tally, kind: u32) {
+    say_name(kind);
+    report::counts_line(t);
+}
+
+// The refusals, the total, and where something differed its first kind and case.
+pub fn last_lines(t: Tally) {
+    report::told_lines(t, &[1, 2, 3, 4, 5, 6, 7, 8, 9, 10, 51]);
+    if t.alldiffer != 0 {
+        say(b"first difference: ");
+        say_name(t.firstkind);
+        report::say_number(b", case ", t.firstcase);
+        say(b"\n");
+    }
+    report::total_line(t);
+}

@@ -1,0 +1,28 @@
+-- `trial_replay::try_kinds` tries the kinds one after the other, and ends.
+-- Assumes nothing.
+use Prim.Native.Nat.{_≤_, _-_}
+use borrow.Author.Needs.{needs}
+use mathlib.Core.Path.{_≡_}
+use lib.ListN.{length}
+use Rattle.trial_replay.proofs.try_kinds.Statement.{statement}
+use Rattle.trial_replay.proofs.try_kinds.Tie as tie
+
+abbrev Inv-loop : tie.InvT-loop
+Inv-loop names script₀ t₀ kind₀ script t kind = (kind ≤ 28) × (length script ≡ length script₀)
+
+abbrev μ-loop : tie.MeasureT-loop
+μ-loop names script₀ t₀ kind₀ script t kind = 28 - kind
+
+pub try-kinds-spec : {M : Type 1} → statement M
+try-kinds-spec =
+    tie.close
+    (tie.spec
+    Inv-loop
+    μ-loop
+    (λ c. search needs)
+    (λ c κs. search needs)
+    (λ c. search needs)
+    (λ c. search needs)
+    (λ c. search needs)
+    (λ c. search needs)
+    (λ c. search needs))

@@ -1,0 +1,218 @@
+// Drawn calls: offers, yields, and faults put into either.
+use super::calls::Call;
+use super::forms;
+use super::styles::Style;
+use plan::Plan;
+use regulator::State;
+use trial_kit::draw;
+use trial_kit::tally::both;
+
+// The first domain number from a start on, going round, that is planned or is not; 0 for none.
+fn domain_from(p: Plan, start: u32, planned: bool) -> usize {
+    let mut left: u32 = 0;
+    while left < 16 {
+        let i = (std::num::wrapping_add_u32(start, left) % 16) as usize;
+        if p.planned[i] == planned {
+            return i + 1;
+        }
+        left += 1;
+    }
+    0
+}
+
+// The offer of a planned domain, or of best effort. Some domains offer in every slot of a run, so that they keep asking.
+fn offer(s: State, style: Style, run: u32, seed: u32, n: u32) -> u8 {
+    let row = (n % 17) as usize;
+    let full = forms::word(s, 9 * row + 8) == forms::word(s, 9 * row + 3);
+    let writes = draw::upto(seed, std::num::wrapping_add_u32(n, 20), 15) < style.writebacks;
+    let steady = draw::upto(run, std::num::wrapping_add_u32(n, 900), 3) == 0;
+    if steady {
+        return if both(writes, !full) { 2 } else { 1 };
+    }
+    if draw::upto(seed, std::num::wrapping_add_u32(n, 40), 15) >= style.offers {
+        return 0;
+    }
+    if writes { 2 } else { 1 }
+}
+
+// Its offer, or none from a domain that is not planned.
+fn offer_at(s: State, style: Style, run: u32, seed: u32, n: usize) -> u8 {
+    let p = s.plan;
+    if n > 0 {
+        let i = (n - 1) % 16;
+        if p.planned[i] == false {
+            return 0;
+        }
+    }
+    offer(s, style, run, seed, (n % 17) as u32)
+}
+
+fn offers(s: State, style: Style, run: u32, seed: u32) -> [u8; 18] {
+    let mut all = [0u8; 18];
+    let mut n: usize = 0;
+    while n < 17 {
+        all[n] = offer_at(s, style, run, seed, n);
+        n += 1;
+    }
+    all
+}
+
+fn length(x: u32) -> usize {
+    match x % 4 {
+        0 => 0,
+        1 => 16,
+        2 => 17,
+        _ => 18,
+    }
+}
+
+fn with_offer(c: Call, n: usize, value: u8) -> Call {
+    let mut after = c;
+    let at = n % 17;
+    after.offers[at] = value;
+    after
+}
+
+fn with_lengths(c: Call, offered: usize, lent: usize) -> Call {
+    let mut after = c;
+    after.offered = offered;
+    after.lent = lent;
+    after
+}
+
+// A slot call with one fault: a length, an offer byte above 2, an offer from a domain that is not planned, or a byte
+// above 2 from such a one.
+fn slot_fault(c: Call, p: Plan, seed: u32, salt: u32) -> Call {
+    let x = draw::draw(seed, std::num::wrapping_add_u32(salt, 1));
+    let absent = domain_from(p, x, false);
+    let above = if x / 32 % 4 == 0 {
+        255
+    } else {
+        draw::low(3 + x / 128 % 4)
+    };
+    match draw::upto(seed, salt, 6) {
+        0 => with_lengths(c, length(x), c.lent),
+        1 => with_lengths(c, c.offered, length(x)),
+        2 => with_lengths(c, length(x), length(x / 4)),
+        3 => with_offer(c, (x / 1024 % 17) as usize, above),
+        4 => with_offer(c, absent, above),
+        _ => with_offer(c, absent, draw::low(1 + x / 16 % 2)),
+    }
+}
+
+// A domain number, 0 and 17 up among them, some of which have the low bits of a planned one.
+fn any_domain(p: Plan, n: u64, x: u32) -> u64 {
+    match x % 9 {
+        0 => 0,
+        1 => 17,
+        2 => 255,
+        3 => std::num::wrapping_add_u64(n, 256),
+        4 => std::num::wrapping_add_u64(n, 65536),
+        5 => std::num::wrapping_add_u64(n, 4294967296),
+        6 => 18446744073709551615,
+        7 => domain_from(p, x / 16, false) as u64,
+        _ => n,
+    }
+}
+
+// A number of units, none of which but the claim itself can be yielded.
+fn any_amount(claim: u64, x: u32) -> u64 {
+    match x % 9 {
+        0 | 1 => 0,
+        2 => claim,
+        3 => std::num::wrapping_add_u64(claim, 1),
+        4 => 65536,
+        5 => 65537,
+        6 => 4294967296,
+        7 => 4294967297,
+        _ => 18446744073709551615,
+    }
+}
+
+fn with_yield(c: Call, domain: u64, k: u64) -> Call {
+    let mut after = c;
+    after.yields = true;
+    after.domain = domain;
+    after.k = k;
+    after
+}
+
+// Some of a claim; 1 where there is none.
+fn some_of(claim: u64, seed: u32) -> u64 {
+    let most = (claim % 65536) as u32;
+    if most > 0 {
+        (1 + draw::upto(seed, 11, most - 1)) as u64
+    } else {
+        1
+    }
+}
+
+// Whether one of two is put wrong, where none is, the chosen one, or both.
+fn is_wrong(faults: u32, chosen: bool) -> bool {
+    match faults {
+        0 => false,
+        1 => chosen,
+        _ => true,
+    }
+}
+
+// A yield by a planned domain, with so many faults: in its domain number, in its units, or in both.
+fn yield_of(c: Call, s: State, seed: u32, faults: u32) -> Call {
+    let p = s.plan;
+    let n = domain_from(p, draw::upto(seed, 10, 15), true);
+    let claim = forms::word(s, 9 * (n % 17) + 4);
+    let x = draw::draw(seed, 12);
+    let first = x / 16 % 2 == 0;
+    let domain = if is_wrong(faults, first) {
+        any_domain(p, n as u64, x / 64)
+    } else {
+        n as u64
+    };
+    let k = if is_wrong(faults, !first) {
+        any_amount(claim, draw::draw(seed, 13) / 64)
+    } else {
+        some_of(claim, seed)
+    };
+    with_yield(c, domain, k)
+}
+
+// How many faults a call of a style has.
+fn faults_of(style: Style, seed: u32) -> u32 {
+    let x = draw::upto(seed, 2, 15);
+    if style.faults > 16 {
+        return if x < style.faults - 16 { 2 } else { 0 };
+    }
+    if x < style.faults { 1 } else { 0 }
+}
+
+fn slot_of(c: Call, s: State, seed: u32, faults: u32) -> Call {
+    let p = s.plan;
+    if faults == 0 {
+        return c;
+    }
+    let one = slot_fault(c, p, seed, 60);
+    if faults == 1 {
+        one
+    } else {
+        slot_fault(one, p, seed, 70)
+    }
+}
+
+// The call of a step: a slot call, or a yield.
+pub fn call(s: State, style: Style, run: u32, seed: u32, yields: bool) -> Call {
+    let faults = faults_of(style, seed);
+    let c = Call {
+        yields: false,
+        offers: offers(s, style, run, seed),
+        offered: 17,
+        lent: 17,
+        filled: draw::low(draw::draw(seed, 3)),
+        domain: 0,
+        k: 0,
+    };
+    if yields {
+        yield_of(c, s, seed, faults)
+    } else {
+        slot_of(c, s, seed, faults)
+    }
+}

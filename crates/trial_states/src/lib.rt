@@ -1,0 +1,6 @@
+// The calls and the changed states that trial_calls compares the library and the model on, fixed by seeds.
+pub mod calls;
+pub mod changes;
+pub mod draws;
+pub mod forms;
+pub mod styles;
