@@ -48,6 +48,7 @@ pub data Outcome : Type 0 where
 abbrev shownOf : Made → Shown
 shownOf m = record { refused = m .refused; verdicts = m .shown; idle = m .state .idle; loose = loose (m .state); counts = m .counts }
 
+-- what the definitions give
 unfoldable pub outcomeOf : Input → Outcome
 outcomeOf (file bytes) = reading (readPlan bytes)
 outcomeOf (value p buffer) = writing (writePlan p (length buffer)) (written p buffer)

@@ -1,4 +1,4 @@
--- The starred cases, document 01's run, and the premise that is met.
+-- What a case is, the list of cases, and the premise that is met.
 pub mod Case
 pub mod Cases
 pub mod Premise

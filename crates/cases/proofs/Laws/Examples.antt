@@ -27,23 +27,22 @@ use Rattle.script.specs.Replay.{split, carriedOut, linesText, replayText}
 use Rattle.share.specs.Call.{Call}
 use Rattle.share.specs.Ledger.{Period, blank, slotEntry, enter, moments}
 use Rattle.share.specs.Run.{made, run, taken, fed}
-use Rattle.share.specs.Share.{Some}
 use Rattle.cases.specs.Case.{outcomeOf}
 use Rattle.cases.specs.Cases.{planA, script, Starred}
-use Rattle.cases.specs.Premise.{Met, periodsOf, PremiseMet}
+use Rattle.cases.specs.Premise.{Some, Met, periodsOf, PremiseMet}
 
 -- the element at index n of a list has a property, so some element has it
-some-at : {A : Type 0} (P : A → Type 0) (n : ℕ) (d : A) (xs : List A) → n < length xs → P (getD xs n d) → Some P xs
-some-at P n d [] h p = absurd (omega arith)
-some-at P zero d (x ∷ xs) h p = inl p
-some-at P (suc n) d (x ∷ xs) h p = inr (some-at P n d xs (omega arith) p)
+some-element : {A : Type 0} (P : A → Type 0) (n : ℕ) (d : A) (xs : List A) → n < length xs → P (getD xs n d) → Some P xs
+some-element P n d [] h p = absurd (omega arith)
+some-element P zero d (x ∷ xs) h p = inl p
+some-element P (suc n) d (x ∷ xs) h p = inr (some-element P n d xs (omega arith) p)
 
 -- the period at index n of those of calls on a plan has a property
 abbrev At : (Period → Type 0) → Plan → List Call → ℕ → Type 0
 At P p cs n = (n < length (periodsOf p cs)) × P (getD (periodsOf p cs) n (blank p))
 
 some-period : (P : Period → Type 0) (p : Plan) (cs : List Call) (n : ℕ) → At P p cs n → Some P (periodsOf p cs)
-some-period P p cs n a = some-at P n (blank p) (periodsOf p cs) (a .0) (a .1)
+some-period P p cs n a = some-element P n (blank p) (periodsOf p cs) (a .0) (a .1)
 
 -- an order of two numerals, for a place that computes to it
 below : (n m : ℕ) → n < m → n < m

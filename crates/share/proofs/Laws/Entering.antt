@@ -3,7 +3,7 @@
 use mathlib.Core.Path.{_≡_, refl, sym, ap, subst, _∙_}
 use mathlib.Core.Logic.{_≢_}
 use mathlib.Core.Bool.{Bool, cond}
-use mathlib.Core.List.{List, _∷_}
+use mathlib.Core.List.{List}
 use mathlib.Core.Option.{none, some}
 use Prim.Native.Nat.{ℕ, _+_, _-_, _≤_, _<_}
 use native.Mathlib.Decide.{ℕ-discrete}
@@ -33,7 +33,7 @@ use Rattle.share.specs.Call.{Call, slot, yield}
 use Rattle.share.specs.Ledger.{refusedCall, decidedSlot, Page, Slot, Period, pass, passing, slotEntry, enter}
 use Rattle.share.specs.Run.{Made, lent, made, taken, fed}
 use Rattle.share.specs.Share.{PeriodShare, RefusedChangesNothing}
-use Rattle.share.proofs.Laws.Reserving.{Past, nothing, pageOf, periodOf, slotIn, Safe, grant-safe, yield-safe, Whole, period-share}
+use Rattle.share.proofs.Laws.Reserving.{Past, nothing, pageOf, periodOf, slotsWith, Safe, grant-safe, yield-safe, Whole, period-share}
 
 -- the entry of a slot is what the grant leaves
 entry-domain : (p : Page) (o : List ℕ) (j : ℕ) → j < 16 → slotEntry p o (j + 1) ≡ pass p j (ltb 0 (nth (p .claim) j)) (eqb (nth o (j + 1)) 2)
@@ -51,14 +51,11 @@ pub record Entered (p : Page) (t : State) (ms : List Slot) : Type 0 where
   pub page : p ≡ pageOf t past
 
 module _ (s : State) (m : Past) (o : List ℕ) where
-  abbrev all : List Slot
-  all = slotIn s m o ∷ m .slots
-
   -- what the ledger holds beyond the state is otherwise the same
-  abbrev same : (p : Page) (t : State) → p ≡ pageOf t m → Entered p t all
-  same p t e = record { past = record { slots = all }; slots = refl; page = e }
+  abbrev same : (p : Page) (t : State) → p ≡ pageOf t m → Entered p t (slotsWith s m o)
+  same p t e = record { past = record { slots = slotsWith s m o }; slots = refl; page = e }
 
-  entry-granted : (n : ℕ) → Granted s o n → Entered (slotEntry (pageOf s m) o n) (decidedOf s o n) all
+  entry-granted : (n : ℕ) → Granted s o n → Entered (slotEntry (pageOf s m) o n) (decidedOf s o n) (slotsWith s m o)
   unfolding slotEntry
   entry-granted n (to-none p) = same _ _ (sym (ap (λ (t : State). pageOf t m) (decided-none s o)))
   entry-granted n (to-best p) = same _ _ (sym (ap (λ (t : State). pageOf t m) (decided-best s o)))
@@ -162,7 +159,7 @@ module _ (s : State) (m : Past) (r : Ready s m) where
     after-grant : Next s next
     after-grant = slot-next s kept o
 
-    entry : Entered (slotEntry (pageOf s m) o (granted s o)) next (slotIn s m o ∷ m .slots)
+    entry : Entered (slotEntry (pageOf s m) o (granted s o)) next (slotsWith s m o)
     entry = entry-granted s m o (granted s o) to
 
     whole-after : Whole next (entry .past)
