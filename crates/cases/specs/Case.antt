@@ -6,8 +6,10 @@ use mathlib.Core.Option.{Option}
 use lib.ListN.{length}
 use lib.IntN.{ℤ}
 use Rattle.plan.specs.Reading.{readPlan}
+use Rattle.plan.specs.Sums.{sumsTold}
 use Rattle.plan.specs.Writing.{writePlan, written}
 use Rattle.plan.specs.declared.value.Plan.{Plan}
+use Rattle.plan.specs.declared.chain.Sums.{Sums}
 use Rattle.plan.specs.declared.reading.Reading.{Reading}
 use Rattle.plan.specs.declared.writing.Writing.{Writing}
 use Rattle.regulator.specs.Verdict.{loose}
@@ -18,10 +20,11 @@ use Rattle.script.specs.Replay.{replayText}
 use Rattle.share.specs.Call.{Call}
 use Rattle.share.specs.Run.{Made, run}
 
--- An input: a plan file that is read; a plan value that is written to a lent buffer; a plan file whose plan is opened, and calls from
--- there on; a script line that is read, with a lent buffer; or a plan file and a script of the replay.
+-- An input: a plan file that is read; a plan file whose sums are told; a plan value that is written to a lent buffer; a plan file whose
+-- plan is opened, and calls from there on; a script line that is read, with a lent buffer; or a plan file and a script of the replay.
 pub data Input : Type 0 where
   file : (bytes : List ℕ) → Input
+  summed : (bytes : List ℕ) → Input
   value : Plan → (buffer : List ℕ) → Input
   calls : (bytes : List ℕ) → List Call → Input
   line : (bytes buffer : List ℕ) → Input
@@ -36,10 +39,11 @@ pub record Shown : Type 0 where
   pub loose : ℤ
   pub counts : Option Counts
 
--- An outcome: what reading answers; what writing answers, and the buffer; 0 or the number of a refusal of opening, and what is shown
--- of each call; what a line means, and the buffer; or all that is printed.
+-- An outcome: what reading answers; the sums told; what writing answers, and the buffer; 0 or the number of a refusal of opening, and
+-- what is shown of each call; what a line means, and the buffer; or all that is printed.
 pub data Outcome : Type 0 where
   reading : Reading → Outcome
+  sums : Sums → Outcome
   writing : Writing → (buffer : List ℕ) → Outcome
   answers : (refused : ℕ) → List Shown → Outcome
   meaning : Meaning → (buffer : List ℕ) → Outcome
@@ -51,6 +55,7 @@ shownOf m = record { refused = m .refused; verdicts = m .shown; idle = m .state 
 -- what the definitions give
 unfoldable pub outcomeOf : Input → Outcome
 outcomeOf (file bytes) = reading (readPlan bytes)
+outcomeOf (summed bytes) = sums (sumsTold bytes)
 outcomeOf (value p buffer) = writing (writePlan p (length buffer)) (written p buffer)
 outcomeOf (calls bytes cs) =
     let o = openPlan (readPlan bytes .plan) in

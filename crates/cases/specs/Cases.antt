@@ -1,21 +1,22 @@
--- The starred cases of document 01, 'Plan A and its neighbours', whole bullets; its misreadings, and a few sentences more; and its
--- script on plan A: one list of inputs and outcomes.
+-- The starred cases of document 01, 'Plan A and its neighbours', whole bullets; its misreadings, a few sentences more, and points of
+-- document 02; and document 01's script on plan A: one list of inputs and outcomes.
 -- Assumes nothing.
-use Prim.Native.Nat.{ℕ}
+use Prim.Native.Nat.{ℕ, _+_, _*_}
 use mathlib.Core.Path.{_≡_}
 use mathlib.Core.List.{List, [], _∷_, _++_, map}
 use mathlib.Core.Bool.{true, false}
 use mathlib.Core.Option.{none, some}
 use lib.ListN.{replicate}
 use lib.IntN.{ℤ, pos, negsuc}
+use Rattle.table.specs.Ranges.{valuesBelow}
 use Rattle.plan.specs.Reading.{refusedReading, acceptedReading}
-use Rattle.plan.specs.Writing.{refusedWriting}
+use Rattle.plan.specs.Writing.{recordsFrom, refusedWriting}
 use Rattle.plan.specs.declared.value.Plan.{Plan}
 use Rattle.regulator.specs.declared.close.Counts.{Counts}
 use Rattle.script.specs.Line.{slotLine, yieldLine, badLine}
 use Rattle.script.specs.Text.{bytes}
 use Rattle.share.specs.Call.{Call, slot, yield}
-use Rattle.cases.specs.Case.{file, value, calls, line, replayed, Shown, Outcome, reading, writing, answers, meaning, prints, outcomeOf, Case}
+use Rattle.cases.specs.Case.{file, summed, value, calls, line, replayed, Shown, Outcome, reading, sums, writing, answers, meaning, prints, outcomeOf, Case}
 
 -- the bytes of record 0 and of a domain record, "each record filled with zeros"; `byte3` is 0 in a good one
 abbrev head : ℕ → ℕ → List ℕ
@@ -50,6 +51,17 @@ leftOver = planA ++ domain 0 3 0 4 0 0
 abbrev reclaiming : List ℕ
 reclaiming = head 4 0 ++ (domain 2 1 0 2 1 4 ++ domain 0 2 0 1 1 0)
 
+-- a file whose sum is above P after two of its records, and whose third record names domain 0
+abbrev overThenSix : List ℕ
+overThenSix = head 4 0 ++ (domain 2 1 0 4 0 0 ++ (domain 3 2 0 1 0 0 ++ domain 0 0 0 1 0 0))
+
+-- P 4,096, and all sixteen domains with a Q of 4,096 (bytes 0 and 16)
+abbrev sixteenWhole : List ℕ
+sixteenWhole = head 0 16 ++ (recordsFrom (λ (k : ℕ). whole (k + 1) k) 1 15 ++ whole 0 16)
+  where
+    whole : ℕ → ℕ → List ℕ
+    whole next number = next ∷ 0 ∷ number ∷ 0 ∷ 0 ∷ 16 ∷ replicate 10 0
+
 -- what plan A is read as, with another period or Q of domain 1
 abbrev valueOf : ℕ → ℕ → Plan
 valueOf P Q =
@@ -66,6 +78,10 @@ accepted P Q = reading (acceptedReading (valueOf P Q))
 
 abbrev refused : ℕ → ℕ → Outcome
 refused n place = reading (refusedReading n place)
+
+-- the sums told: of how many records, and the sixteen places
+abbrev tells : ℕ → List ℕ → Outcome
+tells count places = sums (record { records = count; told = places })
 
 -- seventeen numbers, of which those of 0, 1 and 2 are given
 abbrev three : ℕ → ℕ → ℕ → List ℕ
@@ -178,6 +194,16 @@ cases =
     ∷ record { input = calls planA (yield 1 3 ∷ yield 1 2 ∷ []); outcome = answers 0 (yields 23 (pos 1) ∷ yields 0 (pos 3) ∷ []) }
     -- 'Misreadings to rule out': "Summing Q over records off the chain"
     ∷ record { input = file leftOver; outcome = accepted 4 2 }
+    -- document 02, Point 3: "After each record taken the walk also tells the sum over the domains met so far"
+    ∷ record { input = summed planA; outcome = tells 2 (2 ∷ 3 ∷ replicate 14 0) }
+    -- 10 is "still told only at the chain's end": behind a 6, whose record adds nothing
+    ∷ record { input = file overThenSix; outcome = refused 6 3 }
+    ∷ record { input = summed overThenSix; outcome = tells 2 (4 ∷ 5 ∷ replicate 14 0) }
+    -- "plain addition": 65,536 is not 0
+    ∷ record { input = file sixteenWhole; outcome = refused 10 0 }
+    ∷ record { input = summed sixteenWhole; outcome = tells 16 (valuesBelow (λ (k : ℕ). 4096 * (k + 1)) 16) }
+    -- none where 1 to 3 refuse the file
+    ∷ record { input = summed (lasting 1 16); outcome = tells 0 (replicate 16 0) }
     -- "A reclaimed pass that also lowers the yielder's claim": domain 1 keeps its claim of 1, so loose is 2 − 1 in the end
     ∷ record {
       input = calls reclaiming (yield 1 1 ∷ offer 0 0 1 ∷ offer 0 0 1 ∷ []);

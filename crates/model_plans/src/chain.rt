@@ -52,7 +52,7 @@ fn within(file: &[u8], index: u32, period: u32) -> bool {
 }
 
 // The first refusal of an index that is followed after so many steps, 4 to 9, or else 0.
-fn fault(file: &[u8], steps: u32, index: u32, period: u32) -> u32 {
+pub fn fault(file: &[u8], steps: u32, index: u32, period: u32) -> u32 {
     if record::exists(file, index) {
         if repeats(file, steps, index, false) {
             5

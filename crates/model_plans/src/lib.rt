@@ -1,9 +1,12 @@
 // A second implementation of plans, made plain and slow to compare the library with. A plan is a period and flat words: those
 // of domain n (1 to 16) stand at 4 * (n - 1): present (0 or 1), reservation Q, reclaim cap R, writeback cap W.
+mod along;
 mod chain;
 mod layout;
 mod record;
 pub mod words;
+
+pub use along::Sums;
 
 // What reading a file tells: number 0 where it is accepted; on a refusal the period and all words are 0.
 pub struct Answer {
@@ -39,17 +42,22 @@ pub fn read(file: &[u8]) -> Answer {
     if walked.number != 0 {
         return refused(walked.number, walked.place);
     }
-    let domains = walked.domains;
-    let totals = words::count(period, domains);
-    if totals.reservation > words::wider(period) {
+    // The chain is at its end: the last sum decides.
+    if along::sum_after(file, along::taken(file, period)) > period {
         return refused(10, 0);
     }
+    let domains = walked.domains;
     Answer {
         number: 0,
         place: 0,
         period,
         domains,
     }
+}
+
+// What the walk along the chain of a file tells.
+pub fn sums(file: &[u8]) -> Sums {
+    along::of_file(file)
 }
 
 pub fn check(period: u32, domains: [u32; 64]) -> Told {

@@ -1,22 +1,38 @@
 // The chain of a plan file: each index followed is checked, and then its record.
 use crate::records;
 use crate::value;
+use crate::value::Domain;
 use crate::value::Plan;
 ghost use mathlib.Core.Path.{_≡_};
 ghost use mathlib.Core.Bool.{false};
-ghost use mathlib.Core.List.{_++_};
-ghost use Prim.Native.Nat.{_-_, _/_, _≤_};
+ghost use mathlib.Core.List.{[], _++_};
+ghost use Prim.Native.Nat.{_-_, _/_, _<_, _≤_};
 ghost use lib.ListN.{length, getD};
 ghost use Rattle.table.specs.Lines.{firstOf};
+ghost use Rattle.plan.specs.Value.{noDomains};
 ghost use Rattle.plan.specs.Records.{recordAt};
-ghost use Rattle.plan.specs.Chain.{unlisted, linkTable, recordTable, walkedOf};
+ghost use Rattle.plan.specs.Chain.{unlisted, linkTable, recordTable, sumsHeld, withSum, withRecord, walkedOf};
+
+// The sums that the walk tells: how many records it took, and after each of them the sum of what the domains met so far
+// reserve. Zeros stand behind the last.
+pub struct Sums {
+    pub records: usize,
+    pub told: [u32; 16],
+}
+
+// What the walk has gathered from the records taken: the plan of their domains, the last sum told, and all sums told.
+pub struct Gathered {
+    pub plan: Plan,
+    pub sum: u32,
+    pub sums: Sums,
+}
 
 // What following the chain came to: the refusal that ended it and the index it was met at, or 0 and 0 at the chain's
-// end; and the plan of the domains taken.
+// end; and what was gathered before.
 pub struct Walked {
     pub refused: u8,
     pub place: u16,
-    pub plan: Plan,
+    pub gathered: Gathered,
 }
 
 // Is an unlisted byte of a domain record not zero?
@@ -64,35 +80,79 @@ fn following(file: &[u8], period: u16, seen: [bool; 64], planned: [bool; 16], i:
     record_refusal(records::record_part(file, i), period, planned)
 }
 
+// No sum told yet.
+pub(crate) fn no_sums() -> Sums
+    ensures { λ r. ⌜ r ≡ sumsHeld [] ⌝ }
+{
+    Sums {
+        records: 0,
+        told: [0; 16],
+    }
+}
+
+// One sum more is told.
+fn with_sum(s: Sums, sum: u32) -> Sums
+    requires { ⌜ s .records < 16 ⌝ }
+    ensures { λ r. ⌜ r ≡ withSum s sum ⌝ }
+{
+    let at = s.records;
+    let mut next = s;
+    next.told[at] = sum;
+    next.records = at + 1;
+    next
+}
+
+// Nothing gathered yet.
+fn nothing_gathered(period: u16) -> Gathered
+    ensures { λ r. ⌜ r ≡ record { plan = noDomains period; sum = 0; sums = sumsHeld [] } ⌝ }
+{
+    let plan = value::no_domains(period);
+    let sums = no_sums();
+    Gathered { plan, sum: 0, sums }
+}
+
+// One record is taken: the plan with its domain, and the sum with what the domain reserves. Fifteen domains before it
+// reserve at most 15 * 65,535, so the sum cannot wrap.
+fn gather(g: Gathered, d: Domain) -> Gathered
+    requires { ⌜ (1 ≤ d .number) × (d .number ≤ 16) ⌝ }
+    requires { ⌜ (g .sums .records < 16) × (g .sum ≤ 983025) ⌝ }
+    ensures { λ r. ⌜ r ≡ withRecord g d ⌝ }
+{
+    let plan = value::with_domain(g.plan, d);
+    let sum = g.sum + value::reserves(d);
+    let sums = with_sum(g.sums, sum);
+    Gathered { plan, sum, sums }
+}
+
 // Follows the chain of a file whose length and record 0 are in order.
 pub(crate) fn walk(file: &[u8]) -> Walked
     requires { ⌜ (16 ≤ length (now file)) × (length (now file) ≤ 1024) ⌝ }
     ensures { λ r. ⌜ r ≡ walkedOf (now (file .entry)) ⌝ }
 {
     let period = records::u16_at(file, 0);
-    let mut plan = value::no_domains(period);
+    let mut gathered = nothing_gathered(period);
     let mut seen = [false; 64];
     let mut i = records::u16_at(file, 2);
     while i != 0 {
         let at = i as usize;
-        let planned = plan.planned;
+        let planned = gathered.plan.planned;
         let refused = following(file, period, seen, planned, at);
         if refused != 0 {
             return Walked {
                 refused,
                 place: i,
-                plan,
+                gathered,
             };
         }
         let b = records::record_part(file, at);
         let d = records::domain_in(b);
-        plan = value::with_domain(plan, d);
+        gathered = gather(gathered, d);
         seen[at] = true;
         i = records::u16_at(b, 0);
     }
     Walked {
         refused: 0,
         place: 0,
-        plan,
+        gathered,
     }
 }

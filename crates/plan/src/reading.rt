@@ -22,7 +22,7 @@ fn no_length(n: usize) -> bool
 }
 
 // The refusal that the file's length or record 0 draws, 1 to 3, or 0.
-fn head_refusal(file: &[u8]) -> u8
+pub(crate) fn head_refusal(file: &[u8]) -> u8
     ensures { λ r. ⌜ r ≡ firstOf (headTable (now (file .entry))) 0 ⌝ }
 {
     if no_length(file.len()) {
@@ -62,9 +62,8 @@ pub fn read(file: &[u8]) -> Reading
     if w.refused != 0 {
         return refusal_at(w.refused, w.place);
     }
-    let plan = w.plan;
-    let q = plan.reservation;
-    if (plan.period as u32) < table::total(q) {
+    let plan = w.gathered.plan;
+    if (plan.period as u32) < w.gathered.sum {
         return refusal_at(10, 0);
     }
     Reading {

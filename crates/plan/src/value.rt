@@ -4,7 +4,7 @@ ghost use mathlib.Core.Bool.{cond};
 ghost use Prim.Native.Nat.{_≤_};
 ghost use lib.Dec.{ltb};
 ghost use Rattle.table.specs.Ranges.{someBelow, lowest};
-ghost use Rattle.plan.specs.Value.{outside, above, outOfRange, planRefusal, noDomains, withDomain};
+ghost use Rattle.plan.specs.Value.{outside, above, outOfRange, planRefusal, noDomains, withDomain, reserves};
 
 // A plan: the period, and of each domain number n at index n - 1 whether it is planned, its reservation Q, reclaim cap R
 // and writeback cap W.
@@ -122,4 +122,11 @@ pub(crate) fn with_domain(p: Plan, d: Domain) -> Plan
     next.reclaimcap[at] = d.reclaimcap;
     next.writebackcap[at] = d.writebackcap;
     next
+}
+
+// What a domain reserves.
+pub(crate) fn reserves(d: Domain) -> u32
+    ensures { λ r. ⌜ (r ≡ reserves d) × (r ≤ 65535) ⌝ }
+{
+    d.reservation as u32
 }

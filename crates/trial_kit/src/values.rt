@@ -3,8 +3,8 @@ ghost use Prim.Native.Nat.{_<_};
 use super::draw;
 use plan::Plan;
 
-// How a plan is drawn: any that is accepted, sixteen domains whose Q sum to P, sixteen whose Q are all P, or one with
-// large reservations that is accepted.
+// How a plan is drawn: any that is accepted, sixteen domains whose Q sum to P, sixteen whose Q are all P, one with
+// large reservations that is accepted, or sixteen domains whose Q mostly come to more than P.
 pub const GOOD: u32 = 0;
 
 pub const WHOLE: u32 = 1;
@@ -12,6 +12,8 @@ pub const WHOLE: u32 = 1;
 pub const FULL: u32 = 2;
 
 pub const LARGE: u32 = 3;
+
+pub const OVER: u32 = 4;
 
 pub fn wide(x: u16) -> u32
     ensures { λ r. ⌜ r < 65536 ⌝ }
@@ -108,16 +110,25 @@ fn drawn_period(seed: u32, style: u32) -> u32 {
     }
 }
 
-// Whether a domain is left out: of plans of the styles WHOLE and FULL none is.
+// Whether a domain is left out: of plans of the styles WHOLE, FULL and OVER none is.
 fn left_out(seed: u32, style: u32, n: u32) -> bool {
     match style {
-        1 | 2 => false,
+        1 | 2 | 4 => false,
         _ => draw::upto(seed, std::num::wrapping_add_u32(n, 100), 3) < draw::upto(seed, 3, 4),
     }
 }
 
+// The most that is drawn for a Q: in the style OVER from a quarter of the period to all of it, whatever is left.
+fn most_of(seed: u32, style: u32, left: u32, period: u32) -> u32 {
+    match style {
+        3 => left,
+        4 => period / (1 + draw::upto(seed, 90, 3)),
+        _ => left / 4,
+    }
+}
+
 // Q of domain n + 1, where so much of the period is left.
-fn quota(seed: u32, style: u32, n: u32, left: u32) -> u32 {
+fn quota(seed: u32, style: u32, n: u32, left: u32, period: u32) -> u32 {
     if style == FULL {
         return 4096;
     }
@@ -126,8 +137,11 @@ fn quota(seed: u32, style: u32, n: u32, left: u32) -> u32 {
             return left;
         }
     }
-    let most = if style == LARGE { left } else { left / 4 };
-    amount(seed, std::num::wrapping_add_u32(n, 200), most)
+    amount(
+        seed,
+        std::num::wrapping_add_u32(n, 200),
+        most_of(seed, style, left, period),
+    )
 }
 
 // A plan while its domains are drawn, with what is left of its period.
@@ -152,7 +166,7 @@ fn with_domain(d: Draft, seed: u32, style: u32, n: u32) -> Draft {
     let left = d.left;
     let p = d.plan;
     let period = wide(p.period);
-    let q = quota(seed, style, n, left);
+    let q = quota(seed, style, n, left, period);
     let r = amount(seed, std::num::wrapping_add_u32(n, 300), period);
     let w = amount(seed, std::num::wrapping_add_u32(n, 400), period);
     Draft {

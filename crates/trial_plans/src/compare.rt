@@ -1,5 +1,6 @@
 // The library and the model on one file, or on one plan held as a value and a lent buffer.
 use model_plans::Answer;
+use model_plans::Sums;
 use model_plans::Told;
 use plan::Plan;
 use plan::Reading;
@@ -31,6 +32,33 @@ pub fn same_answers(a: Answer, b: Answer) -> bool {
         a.period == b.period,
         values::same_words(words, others),
     )
+}
+
+fn same_told(a: [u32; 16], b: [u32; 16]) -> bool {
+    let mut k: usize = 0;
+    while k < 16 {
+        if a[k] != b[k] {
+            return false;
+        }
+        k += 1;
+    }
+    true
+}
+
+pub fn same_sums(a: Sums, b: Sums) -> bool {
+    let told = a.told;
+    let others = b.told;
+    both(a.records == b.records, same_told(told, others))
+}
+
+// Whether the walk tells the same sums, after as many records.
+fn same_walk(file: &[u8]) -> bool {
+    let s = plan::sums_told(file);
+    let told = s.told;
+    let m = model_plans::sums(file);
+    let others = m.told;
+    let records = m.records as usize;
+    both(s.records == records, same_told(told, others))
 }
 
 // A reading of the library's in the model's form.
@@ -158,11 +186,12 @@ pub fn value(p: Plan, size: u32, seed: u32) -> Verdict {
     }
 }
 
-// A file: read, and where it is accepted, the plan written and read back.
-pub fn file(file: &[u8], seed: u32) -> Verdict {
+// A file: read and walked, and where it is accepted, the plan written and read back. Whether the model answers as is stated
+// or known of the file stands beside.
+pub fn file(file: &[u8], seed: u32, holds: bool) -> Verdict {
     let r = plan::read(file);
     let a = model_plans::read(file);
-    let same = same_answers(answer(r), a);
+    let same = all3(same_answers(answer(r), a), same_walk(file), holds);
     if a.number == 0 {
         let p = r.plan;
         let back = value(p, BUFFER, seed);

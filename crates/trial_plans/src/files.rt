@@ -4,7 +4,7 @@ use super::chain;
 use super::chain::Chain;
 use super::compare;
 use super::faults;
-use super::stated;
+use super::places;
 use plan::Plan;
 use trial_kit::bytes;
 use trial_kit::draw;
@@ -13,7 +13,7 @@ use trial_kit::values;
 // A plan in so many records, those off the chain of any bytes.
 fn put_plan(file: &mut [u8], p: Plan, records: u32, seed: u32) -> Chain {
     bytes::fill(file, compare::LONGEST, seed, bytes::ANY);
-    chain::lay(file, p, records, seed)
+    chain::lay(file, p, records, 16, seed)
 }
 
 fn most_records(many: bool) -> u32
@@ -193,15 +193,15 @@ fn filling_of(kind: u32) -> u32 {
     }
 }
 
-// Puts the file of a case of the kinds 0 to 15 and answers its length.
+// Puts the file of a case and answers its length.
 pub fn put(file: &mut [u8], kind: u32, case: u32, seed: u32) -> u32 {
     match kind {
-        0 => stated::put_file(file, case),
         1..=8 => put_laid(file, kind, case, seed),
         9 => sums(file, case, seed),
         10 | 11 => two_faults(file, kind == 11, seed),
         12 => one_byte(file, case, seed),
         13 | 14 => filled(file, filling_of(kind), case, seed),
-        _ => small(file, seed),
+        15 => small(file, seed),
+        _ => places::put(file, kind, case, seed),
     }
 }

@@ -1,4 +1,6 @@
 // The lines that are printed.
+use super::seen;
+use super::seen::Seen;
 use trial_kit::lines;
 use trial_kit::report;
 use trial_kit::report::say;
@@ -6,7 +8,7 @@ use trial_kit::tally::Tally;
 
 fn say_name(kind: u32) {
     lines::say_nth(
-        b"plan A and its neighbours\n\
+        b"stated cases\n\
         files of every length\n\
         periods\n\
         bytes 4 to 15 of record 0\n\
@@ -28,7 +30,10 @@ fn say_name(kind: u32) {
         plan values with several faults\n\
         plan values with sums around P, and 65,536\n\
         plan values of any period\n\
-        plan values in buffers of each length\n",
+        plan values in buffers of each length\n\
+        a fault of 4 to 9 at each place of a chain\n\
+        sums that mostly pass P, and a fault of 4 to 9\n\
+        chains of each length, and no fault\n",
         kind as usize,
     );
 }
@@ -38,8 +43,9 @@ pub fn kind_line(t: Tally, kind: u32) {
     report::counts_line(t);
 }
 
-// The refusals, the total, and where something differed its first kind and case.
-pub fn last_lines(t: Tally) {
+// What was seen, the refusals, the total, and where something differed its first kind and case.
+pub fn last_lines(t: Tally, s: Seen) {
+    seen::lines(s);
     report::told_lines(t, &[1, 2, 3, 4, 5, 6, 7, 8, 9, 10, 51]);
     if t.alldiffer != 0 {
         say(b"first difference: ");

@@ -1,99 +1,182 @@
-// Plan A and its neighbours, with the outcomes that document 01 states for them.
+// Cases whose outcomes are stated, read as text lines. The first byte tells what a line is:
+//   case NAME                             a case begins, with an empty plan file and nothing due
+//   file NNNNN NNNNN NNNNN NNNNN NNNNN    a record more of the plan file: its first five numbers of two bytes
+//   at OOOO NNN                           a byte of the plan file
+//   size NNNN                             the bytes of the plan file
+//   plan PPPPP                            the period of the plan that is due
+//   domain NN QQQQQ RRRRR WWWWW           a domain of it
+//   read NN KKKKK                         reading tells this refusal and place, and the plan due (zeros where none is)
+//   told NNNNNNN                          a sum more that is due
+//   walk                                  the sums told are those due, and no other
+// What is due begins anew after `read` and `walk`.
 use super::compare;
+use super::run;
+use super::run::Run;
 use model_plans::Answer;
+use model_plans::Sums;
+use model_plans::words;
 use trial_kit::bytes;
+use trial_kit::given::put_in_file;
+use trial_kit::lines;
+use trial_kit::report;
+use trial_kit::tally;
 
-// Cases 1 to 9 are plan A with one number of two bytes put to a value; that of case 1 leaves it as it is.
-fn neighbour_value(case: u32) -> u32 {
-    match case {
-        1 => 4,
-        2 => 4096,
-        3 => 4097,
-        4 => 1,
-        5 => 3,
-        6 => 256,
-        7 => 3,
-        8 => 4,
-        _ => 5,
-    }
+// The kind of all stated cases.
+pub const STATED: u32 = 0;
+
+// What is due: the period and the words of a plan, and sums.
+struct Due {
+    period: u32,
+    domains: [u32; 64],
+    sums: Sums,
 }
 
-// The number is the period, the link of record 2, or in record 1 the domain number or Q.
-fn put_neighbour(file: &mut [u8], case: u32) {
-    let value = neighbour_value(case);
-    match case {
-        1..=3 => bytes::put_pair(file, 0, 0, value),
-        4 | 5 => bytes::put_pair(file, 2, 0, value),
-        6 => bytes::put_pair(file, 1, 2, value),
-        _ => bytes::put_pair(file, 1, 4, value),
-    }
+// The bytes so far of the plan file, where the case's name stands, and its number.
+struct Stand {
+    file: usize,
+    named: usize,
+    case: u32,
 }
 
-// The file of a case, and how many bytes it has: case 0 is the empty file, case 10 record 0 alone with P 1.
-pub fn put_file(file: &mut [u8], case: u32) -> u32 {
-    if case == 0 {
-        return 0;
-    }
-    if case == 10 {
-        bytes::put_record(file, 0, 1, 0, 0, 0, 0);
-        return 16;
-    }
-    bytes::put_record(file, 0, 4, 1, 0, 0, 0);
-    bytes::put_record(file, 1, 2, 1, 2, 1, 4);
-    bytes::put_record(file, 2, 0, 2, 1, 0, 0);
-    put_neighbour(file, case);
-    48
-}
-
-fn refused(number: u32, place: u32) -> Answer {
-    Answer {
-        number,
-        place,
+fn nothing() -> Due {
+    Due {
         period: 0,
         domains: [0; 64],
-    }
-}
-
-// Plan A with another period or another Q of domain 1.
-fn accepted(period: u32, q: u32) -> Answer {
-    let mut domains = [0u32; 64];
-    domains[0] = 1;
-    domains[1] = q;
-    domains[2] = 1;
-    domains[3] = 4;
-    domains[4] = 1;
-    domains[5] = 1;
-    Answer {
-        number: 0,
-        place: 0,
-        period,
-        domains,
-    }
-}
-
-// What document 01 states of a case.
-fn outcome(case: u32) -> Answer {
-    match case {
-        0 => refused(1, 0),
-        1 => accepted(4, 2),
-        2 => accepted(4096, 2),
-        3 => refused(2, 0),
-        4 => refused(5, 1),
-        5 => refused(4, 3),
-        6 => refused(6, 1),
-        7 => accepted(4, 3),
-        8 => refused(10, 0),
-        9 => refused(9, 1),
-        _ => Answer {
-            number: 0,
-            place: 0,
-            period: 1,
-            domains: [0; 64],
+        sums: Sums {
+            records: 0,
+            told: [0; 16],
         },
     }
 }
 
-// Whether the model answers as stated.
-pub fn holds(file: &[u8], case: u32) -> bool {
-    compare::same_answers(model_plans::read(file), outcome(case))
+fn with_domain(d: Due, given: &[u8], at: usize) -> Due {
+    let mut after = d;
+    let domains = d.domains;
+    let next = words::with_domain(
+        domains,
+        lines::small(given, at, 7, 2),
+        lines::small(given, at, 10, 5),
+        lines::small(given, at, 16, 5),
+        lines::small(given, at, 22, 5),
+    );
+    after.domains = next;
+    after
+}
+
+// A sum more. Of more than sixteen the count alone tells.
+fn with_sum(d: Due, sum: u32) -> Due {
+    let mut after = d;
+    let mut s = d.sums;
+    let k = (s.records % 16) as usize;
+    s.told[k] = sum;
+    s.records = tally::more(s.records);
+    after.sums = s;
+    after
+}
+
+fn with_period(d: Due, period: u32) -> Due {
+    let mut after = d;
+    after.period = period;
+    after
+}
+
+// What is due after a line.
+fn due_after(d: Due, given: &[u8], at: usize) -> Due {
+    match lines::byte(given, at) {
+        b'p' => with_period(d, lines::small(given, at, 5, 5)),
+        b'd' => with_domain(d, given, at),
+        b't' => with_sum(d, (lines::number(given, at, 5, 7) % 4294967296) as u32),
+        b'c' | b'r' | b'w' => nothing(),
+        _ => d,
+    }
+}
+
+// The stand after a line; a case's name is behind the word.
+fn stand_after(p: Stand, given: &[u8], at: usize, file: &mut [u8]) -> Stand {
+    match lines::byte(given, at) {
+        b'c' => Stand {
+            file: 0,
+            named: std::num::wrapping_add_usize(at, 5),
+            case: tally::more(p.case),
+        },
+        b'f' | b'a' | b's' => Stand {
+            file: put_in_file(file, p.file, given, at),
+            named: p.named,
+            case: p.case,
+        },
+        _ => p,
+    }
+}
+
+// Whether the model reads the file as is due.
+fn reads(d: Due, file: &[u8], given: &[u8], at: usize) -> bool {
+    let domains = d.domains;
+    let due = Answer {
+        number: lines::small(given, at, 5, 2),
+        place: lines::small(given, at, 8, 5),
+        period: d.period,
+        domains,
+    };
+    compare::same_answers(model_plans::read(file), due)
+}
+
+// Whether the model tells the sums that are due.
+fn walks(d: Due, file: &[u8]) -> bool {
+    let due = d.sums;
+    compare::same_sums(model_plans::sums(file), due)
+}
+
+fn holds(d: Due, file: &[u8], given: &[u8], at: usize) -> bool {
+    if lines::byte(given, at) == b'r' {
+        reads(d, file, given, at)
+    } else {
+        walks(d, file)
+    }
+}
+
+fn compared(r: Run, case: u32, d: Due, given: &[u8], at: usize, file: &[u8]) -> Run {
+    run::with_file(r, STATED, case, file, case, holds(d, file, given, at))
+}
+
+// The counts of a case are printed before the next begins.
+fn closed(r: Run, p: Stand, given: &[u8]) -> Run {
+    let t = r.tally;
+    if p.case > 0 {
+        lines::say_line(given, p.named);
+        report::counts_line(t);
+    }
+    run::next_kind(r)
+}
+
+// The run after a line.
+fn run_after(r: Run, p: Stand, d: Due, given: &[u8], at: usize, file: &[u8]) -> Run {
+    let size = bytes::least(p.file, file.len());
+    match lines::byte(given, at) {
+        b'c' => closed(r, p, given),
+        b'r' | b'w' => compared(r, p.case, d, given, at, &file[0..size]),
+        _ => r,
+    }
+}
+
+// All cases of the text. Its last line begins a case without a name, so that the one before is printed.
+pub fn cases(before: Run, given: &[u8]) -> Run {
+    let mut file = [0u8; 1040];
+    let mut r = before;
+    let mut p = Stand {
+        file: 0,
+        named: 0,
+        case: 0,
+    };
+    let mut d = nothing();
+    let mut at: usize = 0;
+    while at < given.len() {
+        let run = run_after(r, p, d, given, at, &file);
+        let stand = stand_after(p, given, at, &mut file);
+        let due = due_after(d, given, at);
+        r = run;
+        p = stand;
+        d = due;
+        at = lines::after_line(given, at);
+    }
+    r
 }

@@ -15,6 +15,7 @@ use super::report;
 use model_replay::text;
 use trial_kit::bytes;
 use trial_kit::draw;
+use trial_kit::given::put_in_file;
 use trial_kit::lines;
 use trial_kit::tally;
 use trial_kit::tally::Tally;
@@ -43,40 +44,6 @@ fn put_rest(to: &mut [u8], at: usize, given: &[u8], from: usize) -> usize {
 fn put_line(to: &mut [u8], at: usize, given: &[u8], from: usize) -> usize {
     let end = put_rest(to, at, given, from);
     text::put_byte(to, end, 10)
-}
-
-// One record more.
-fn put_record(file: &mut [u8], size: usize, given: &[u8], at: usize) -> usize {
-    bytes::put_record(
-        file,
-        (size / 16 % 64) as u32,
-        lines::small(given, at, 5, 5),
-        lines::small(given, at, 11, 5),
-        lines::small(given, at, 17, 5),
-        lines::small(given, at, 23, 5),
-        lines::small(given, at, 29, 5),
-    );
-    std::num::wrapping_add_usize(size, 16)
-}
-
-fn put_byte(file: &mut [u8], given: &[u8], at: usize) {
-    bytes::put(
-        file,
-        lines::small(given, at, 3, 4) as usize,
-        draw::low(lines::small(given, at, 8, 3)),
-    );
-}
-
-// A line of the plan file; answers the bytes it then has.
-fn put_in_file(file: &mut [u8], size: usize, given: &[u8], at: usize) -> usize {
-    match lines::byte(given, at) {
-        b'f' => put_record(file, size, given, at),
-        b's' => lines::small(given, at, 5, 4) as usize,
-        _ => {
-            put_byte(file, given, at);
-            size
-        }
-    }
 }
 
 // A line of the script; answers the bytes it then has.

@@ -11,8 +11,9 @@ use Rattle.table.specs.Members.{has, each, lastOf}
 use Rattle.table.specs.Ranges.{valuesBelow, everyBelow, someBelow, lowestFrom}
 use Rattle.plan.specs.declared.value.Plan.{Plan}
 use Rattle.plan.specs.Value.{withAll, domainsTo, outside, above, outOfRange, reserved, planRefusal}
-use Rattle.plan.specs.Chain.{unlisted, linkOf, faultAt, fault, goesOn, walk, chainOf}
+use Rattle.plan.specs.Chain.{unlisted, linkOf, faultAt, fault, goesOn, walk, chainOf, sumsFrom}
 use Rattle.plan.specs.Reading.{noLength, readPlan}
+use Rattle.plan.specs.Sums.{sumsTold}
 use Rattle.plan.specs.Writing.{recordOf, recordsFrom, writePlan, written}
 use Rattle.regulator.specs.State.{numbersAddUp, domainAddsUp, addsUp}
 use Rattle.regulator.specs.Verdict.{atCap, waits, waiting, loose, blocked, ruling, rulingAt, rulingOf}
@@ -52,7 +53,7 @@ below n m h = h
 computed : Starred
     × At (Met 0 2 0 2) (readPlan planA .plan) script 4
     × At (Met 0 2 1 1) (readPlan planA .plan) script 10
-unfolding sum raised lowered has lastOf valuesBelow everyBelow someBelow lowestFrom withAll domainsTo outside above outOfRange reserved planRefusal unlisted linkOf faultAt fault goesOn walk chainOf noLength readPlan recordOf recordsFrom writePlan written numbersAddUp domainAddsUp addsUp atCap waits waiting loose blocked ruling rulingAt rulingOf after ask granted verdicts domainGrant grant ended openPlan offersRefusal slotRefusal oneSlot slotOf verdictsIn noDomain yieldRefusal yieldOf made run taken fed slotEntry enter moments outcomeOf each isDigit isNumber valueFrom before behind isSlot offersOf slotMeaning isYield yieldMeaning meaningOf offersIn digitsOf decimal header domainText domainsText periodText openText refusedText split carriedOut linesText replayText
+unfolding sum raised lowered has lastOf valuesBelow everyBelow someBelow lowestFrom withAll domainsTo outside above outOfRange reserved planRefusal unlisted linkOf faultAt fault goesOn walk chainOf sumsFrom noLength readPlan sumsTold recordOf recordsFrom writePlan written numbersAddUp domainAddsUp addsUp atCap waits waiting loose blocked ruling rulingAt rulingOf after ask granted verdicts domainGrant grant ended openPlan offersRefusal slotRefusal oneSlot slotOf verdictsIn noDomain yieldRefusal yieldOf made run taken fed slotEntry enter moments outcomeOf each isDigit isNumber valueFrom before behind isSlot offersOf slotMeaning isYield yieldMeaning meaningOf offersIn digitsOf decimal header domainText domainsText periodText openText refusedText split carriedOut linesText replayText
 computed = (
   refl,
   (below 4 12 (omega arith), record { completed = refl; asking = (λ h. inl refl, (λ h. inl refl, (λ h. inl refl, (λ h. inl refl, tt)))); reserved = refl; gives = refl; takes = refl }),

@@ -6,10 +6,10 @@ use Rattle.trial_plans.proofs.try_kind.Statement.{statement}
 use Rattle.trial_plans.proofs.try_kind.Tie as tie
 
 abbrev Inv-loop : tie.InvT-loop
-Inv-loop kind counts₀ most case₀ counts case = case ≤ most
+Inv-loop kind r₀ most case₀ r case = case ≤ most
 
 abbrev μ-loop : tie.MeasureT-loop
-μ-loop kind counts₀ most case₀ counts case = most - case
+μ-loop kind r₀ most case₀ r case = most - case
 
 pub try-kind-spec : {M : Type 1} → statement M
 try-kind-spec =
@@ -20,7 +20,6 @@ try-kind-spec =
     (λ c κs. search needs)
     (λ c κs. search needs)
     (λ c. search needs)
-    (λ c κs. search needs)
     (λ c κs. search needs)
     (λ c. search needs)
     (λ c. search needs)

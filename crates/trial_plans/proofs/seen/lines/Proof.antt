@@ -1,27 +1,28 @@
--- `trial_plans::main` tries the kinds one after the other, and ends.
+-- `trial_plans::seen::lines` prints thirteen lines and ends.
 -- Assumes nothing.
 use Prim.Native.Nat.{_≤_, _-_}
 use borrow.Author.Needs.{needs}
-use Rattle.trial_plans.proofs.main.Statement.{statement}
-use Rattle.trial_plans.proofs.main.Tie as tie
+use Rattle.trial_plans.proofs.seen.lines.Statement.{statement}
+use Rattle.trial_plans.proofs.seen.lines.Tie as tie
 
 abbrev Inv-loop : tie.InvT-loop
-Inv-loop counts₀ kind₀ counts kind = kind ≤ 23
+Inv-loop seen k₀ k = k ≤ 13
 
 abbrev μ-loop : tie.MeasureT-loop
-μ-loop counts₀ kind₀ counts kind = 23 - kind
+μ-loop seen k₀ k = 13 - k
 
-pub main-spec : {M : Type 1} → statement M
-main-spec =
+pub lines-spec : {M : Type 1} → statement M
+lines-spec =
     tie.close
     (tie.spec
     Inv-loop
     μ-loop
-    (λ c κs. search needs)
-    (λ c. search needs)
-    (λ c κs. search needs)
-    (λ c. search needs)
     (λ c. search needs)
     (λ c. search needs)
     (λ c κs. search needs)
+    (λ c. search needs)
+    (λ c κs. search needs)
+    (λ c. search needs)
+    (λ c. search needs)
+    (λ c. search needs)
     (λ c. search needs))

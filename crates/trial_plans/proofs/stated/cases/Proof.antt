@@ -1,0 +1,32 @@
+-- `trial_plans::stated::cases` ends: each line begins behind the one before.
+-- Assumes nothing.
+use Prim.Native.Nat.{_-_}
+use borrow.Author.Needs.{needs}
+use mathlib.Core.Path.{_≡_}
+use lib.ListN.{length}
+use Rattle.trial_plans.proofs.stated.cases.Statement.{statement}
+use Rattle.trial_plans.proofs.stated.cases.Tie as tie
+
+abbrev Inv-loop : tie.InvT-loop
+Inv-loop given file₀ r₀ p₀ d₀ at₀ file r p d at = length file ≡ 1040
+
+abbrev μ-loop : tie.MeasureT-loop
+μ-loop given file₀ r₀ p₀ d₀ at₀ file r p d at = length given - at
+
+pub cases-spec : {M : Type 1} → statement M
+cases-spec =
+    tie.close
+    (tie.spec
+    Inv-loop
+    μ-loop
+    (λ c κs. search needs)
+    (λ c. search needs)
+    (λ c. search needs)
+    (λ c κs. search needs)
+    (λ c. search needs)
+    (λ c κs. search needs)
+    (λ c κs. search needs)
+    (λ c κs. search needs)
+    (λ c. search needs)
+    (λ c. search needs)
+    (λ c. search needs))

@@ -1,0 +1,25 @@
+-- `trial_plans::try_kinds` tries the kinds one after the other, and ends.
+-- Assumes nothing.
+use Prim.Native.Nat.{_≤_, _-_}
+use borrow.Author.Needs.{needs}
+use Rattle.trial_plans.proofs.try_kinds.Statement.{statement}
+use Rattle.trial_plans.proofs.try_kinds.Tie as tie
+
+abbrev Inv-loop : tie.InvT-loop
+Inv-loop r₀ kind₀ r kind = kind ≤ 26
+
+abbrev μ-loop : tie.MeasureT-loop
+μ-loop r₀ kind₀ r kind = 26 - kind
+
+pub try-kinds-spec : {M : Type 1} → statement M
+try-kinds-spec =
+    tie.close
+    (tie.spec
+    Inv-loop
+    μ-loop
+    (λ c. search needs)
+    (λ c κs. search needs)
+    (λ c. search needs)
+    (λ c. search needs)
+    (λ c. search needs)
+    (λ c. search needs))
