@@ -69,9 +69,13 @@ pub fn words(p: Plan) -> [u32; 64] {
     all
 }
 
-pub fn same_words(a: [u32; 64], b: [u32; 64]) -> bool {
+// Whether all words of one list are those of another.
+pub fn same_words(a: &[u32], b: &[u32]) -> bool {
     let mut k: usize = 0;
-    while k < 64 {
+    while k < a.len() {
+        if k >= b.len() {
+            return false;
+        }
         if a[k] != b[k] {
             return false;
         }

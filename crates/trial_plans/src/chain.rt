@@ -61,16 +61,14 @@ fn with_domain(file: &mut [u8], p: Plan, order: [u32; 64], l: Laid, domain: u32)
     }
 }
 
-// Lays so many domains of a plan at most into so many records, those off the chain left as they are. The chain's order and
-// its records are drawn.
-pub fn lay(file: &mut [u8], p: Plan, records: u32, most: u32, seed: u32) -> Chain {
-    let behind = if records == 0 { 0 } else { records - 1 };
-    let order = draw::shuffled(seed, 500, behind);
+// Lays a plan into so many records, those off the chain left as they are. The chain's order and its records are drawn.
+pub fn lay(file: &mut [u8], p: Plan, records: u32, seed: u32) -> Chain {
+    let most = if records == 0 { 0 } else { records - 1 };
+    let order = draw::shuffled(seed, 500, most);
     let domains = draw::shuffled(seed, 600, 16);
     let period = values::wide(p.period);
     bytes::put_record(file, 0, period, 0, 0, 0, 0);
-    let room = if most < behind { most } else { behind };
-    let used = lay_domains(file, p, order, domains, room);
+    let used = lay_domains(file, p, order, domains, most);
     Chain {
         records,
         period,

@@ -30,25 +30,14 @@ pub fn same_answers(a: Answer, b: Answer) -> bool {
     all3(
         refusal,
         a.period == b.period,
-        values::same_words(words, others),
+        values::same_words(&words, &others),
     )
-}
-
-fn same_told(a: [u32; 16], b: [u32; 16]) -> bool {
-    let mut k: usize = 0;
-    while k < 16 {
-        if a[k] != b[k] {
-            return false;
-        }
-        k += 1;
-    }
-    true
 }
 
 pub fn same_sums(a: Sums, b: Sums) -> bool {
     let told = a.told;
     let others = b.told;
-    both(a.records == b.records, same_told(told, others))
+    both(a.records == b.records, values::same_words(&told, &others))
 }
 
 // Whether the walk tells the same sums, after as many records.
@@ -58,7 +47,7 @@ fn same_walk(file: &[u8]) -> bool {
     let m = model_plans::sums(file);
     let others = m.told;
     let records = m.records as usize;
-    both(s.records == records, same_told(told, others))
+    both(s.records == records, values::same_words(&told, &others))
 }
 
 // A reading of the library's in the model's form.

@@ -13,7 +13,7 @@ use trial_kit::values;
 // A plan in so many records, those off the chain of any bytes.
 fn put_plan(file: &mut [u8], p: Plan, records: u32, seed: u32) -> Chain {
     bytes::fill(file, compare::LONGEST, seed, bytes::ANY);
-    chain::lay(file, p, records, 16, seed)
+    chain::lay(file, p, records, seed)
 }
 
 fn most_records(many: bool) -> u32

@@ -1,9 +1,10 @@
 // Compares the library's plans with the model's on stated cases and on files and values that are fixed by seeds, and prints
 // what was compared.
-use run::Run;
+use seen::Outcome;
 use trial_kit::bytes::least;
 use trial_kit::draw;
-use trial_kit::tally::Verdict;
+use trial_kit::tally;
+use trial_kit::tally::Tally;
 
 mod chain;
 mod compare;
@@ -12,7 +13,6 @@ mod files;
 mod places;
 mod plans;
 mod report;
-mod run;
 mod seen;
 mod stated;
 
@@ -37,70 +37,62 @@ fn cases(kind: u32) -> u32 {
 }
 
 // A file, compared, also with what is known of it.
-fn tried(r: Run, kind: u32, case: u32, file: &[u8], seed: u32) -> Run {
-    let holds = places::holds(file, kind, case);
-    run::with_file(r, kind, case, file, seed, holds)
+fn tried(kind: u32, case: u32, file: &[u8], seed: u32) -> Outcome {
+    let v = compare::file(file, seed, places::holds(file, kind, case));
+    seen::of_file(file, v)
 }
 
-fn try_file(r: Run, kind: u32, case: u32, seed: u32) -> Run {
+fn try_file(kind: u32, case: u32, seed: u32) -> Outcome {
     let mut file = [0u8; 1040];
     let bytes = files::put(&mut file, kind, case, seed) as usize;
     let size = least(bytes, 1040);
-    tried(r, kind, case, &file[0..size], seed)
+    tried(kind, case, &file[0..size], seed)
 }
 
-fn try_value(kind: u32, case: u32, seed: u32) -> Verdict {
+fn try_value(kind: u32, case: u32, seed: u32) -> Outcome {
     let p = plans::made(kind, case, seed);
-    compare::value(p, plans::lent(p, kind, case), seed)
+    seen::of_value(compare::value(p, plans::lent(p, kind, case), seed))
 }
 
-fn of_values(kind: u32) -> bool {
-    match kind {
-        16..=22 => true,
-        _ => false,
-    }
-}
-
-fn try_case(r: Run, kind: u32, case: u32) -> Run {
+fn try_case(kind: u32, case: u32) -> Outcome {
     let seed = draw::draw(kind, case);
-    if of_values(kind) {
-        run::with_value(r, kind, case, try_value(kind, case, seed))
-    } else {
-        try_file(r, kind, case, seed)
+    match kind {
+        16..=22 => try_value(kind, case, seed),
+        _ => try_file(kind, case, seed),
     }
 }
 
-fn try_kind(before: Run, kind: u32) -> Run {
-    let mut r = run::next_kind(before);
+fn try_kind(before: Tally, kind: u32, seen: &mut [u32]) -> Tally {
+    let mut t = tally::next_kind(before);
     let most = cases(kind);
     let mut case: u32 = 0;
     while case < most {
-        let next = try_case(r, kind, case);
-        r = next;
+        let next = seen::counted(t, kind, case, try_case(kind, case), seen);
+        t = next;
         case += 1;
     }
-    let t = r.tally;
     report::kind_line(t, kind);
-    r
+    t
 }
 
-fn try_kinds(before: Run) -> Run {
-    let mut r = before;
+fn try_kinds(before: Tally, seen: &mut [u32]) -> Tally {
+    let mut t = before;
     let mut kind: u32 = 1;
     while kind < KINDS {
-        let next = try_kind(r, kind);
-        r = next;
+        let next = try_kind(t, kind, seen);
+        t = next;
         kind += 1;
     }
-    r
+    t
 }
 
 // The stated cases and those of all kinds, given the text that states them.
 fn try_all(given: &[u8]) {
-    let r = try_kinds(stated::cases(run::start(), given));
-    let t = r.tally;
-    let s = r.seen;
-    report::last_lines(t, s);
+    let mut seen = [0u32; 160];
+    let before = stated::cases(tally::start(), given, &mut seen);
+    let t = try_kinds(before, &mut seen);
+    seen::lines(&seen);
+    report::last_lines(t);
 }
 
 fn main() {

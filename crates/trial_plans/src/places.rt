@@ -1,5 +1,4 @@
 // The files of the kinds 23 to 25, made for the sums along the chain: how many records are taken of each is known.
-ghost use Prim.Native.Nat.{_<_, _≤_};
 use super::chain;
 use super::chain::Chain;
 use super::compare;
@@ -9,46 +8,30 @@ use trial_kit::draw;
 use trial_kit::tally::both;
 use trial_kit::values;
 
-// How many domains a chain is laid with, the refusal of 4 to 9 that is put in, or 0 for none, and how many records are taken.
+// The refusal of 4 to 9 that is put in, or 0 for none, and how many records are taken.
 struct Spot {
-    domains: u32,
     fault: u32,
     taken: u32,
 }
 
-// The places where a fault can be: 4 and 6 also behind the last domain, 5 and 7 not before a record is taken.
-fn place(fault: u32, domains: u32, turn: u32) -> u32
-    requires { ⌜ (0 < domains) × (domains ≤ 16) ⌝ }
-{
+// Each place where a fault can be, in turn: 4 and 6 also behind sixteen records, 5 and 7 not before a record is taken.
+fn place(fault: u32, turn: u32) -> u32 {
     match fault {
-        4 | 6 => turn % (domains + 1),
-        5 | 7 => std::num::wrapping_add_u32(turn % domains, 1),
-        _ => turn % domains,
+        4 | 6 => turn % 17,
+        5 | 7 => turn % 16 + 1,
+        _ => turn % 16,
     }
 }
 
-// Each fault in chains of 1 to 16 records, at each place in turn.
-fn with_fault(case: u32) -> Spot {
-    let fault = 4 + case % 6;
-    let domains = 1 + case / 6 % 16;
-    Spot {
-        domains,
-        fault,
-        taken: place(fault, domains, case / 96),
-    }
-}
-
-// In kind 25 chains of 0 to 16 records without a fault.
+// In kind 25 the chain ends after 0 to 16 records, and has no fault.
 fn spot_of(kind: u32, case: u32) -> Spot {
-    if kind == 25 {
-        Spot {
-            domains: case % 17,
-            fault: 0,
-            taken: case % 17,
-        }
+    let fault = if kind == 25 { 0 } else { 4 + case % 6 };
+    let taken = if kind == 25 {
+        case % 17
     } else {
-        with_fault(case)
-    }
+        place(fault, case / 6)
+    };
+    Spot { fault, taken }
 }
 
 // The plan's style: sixteen domains whose Q come to P in kind 23, mostly to more in 24, and in 25 to either or to 65,536.
@@ -77,55 +60,42 @@ fn put_link(file: &mut [u8], from: u32, to: u32) {
     bytes::put_pair(file, from, chain::link_offset(from), to);
 }
 
-// A fault that surely draws 4, 6, 8 or 9.
+// A damage that surely draws the fault.
 fn damage_of(fault: u32, seed: u32) -> u32 {
     match fault {
-        4 => faults::LINKS + draw::upto(seed, 711, 2),
-        6 => faults::NUMBERS + draw::upto(seed, 711, 2),
-        8 => faults::UNLISTED + draw::upto(seed, 711, 6),
-        _ => faults::AMOUNTS + 1 + draw::upto(seed, 711, 2) * 3 + draw::upto(seed, 712, 1),
+        4 => faults::LINKS + draw::upto(seed, 710, 2),
+        5 => faults::LINKS + 3,
+        6 => faults::NUMBERS + draw::upto(seed, 710, 2),
+        7 => faults::NUMBERS + 3,
+        8 => faults::UNLISTED + draw::upto(seed, 710, 6),
+        _ => faults::AMOUNTS + 1 + draw::upto(seed, 710, 2) * 3 + draw::upto(seed, 711, 1),
     }
 }
 
-// Puts a record's domain number to that of another.
-fn copy_number(file: &mut [u8], to: u32, from: u32) {
-    let number = bytes::get(file, bytes::place(from, 2));
-    bytes::put(file, bytes::place(to, 2), number);
-}
-
-// Puts the fault in, if there is one: the link of 5 and the number of 7 are those of a record taken earlier. The next record
-// is led to first, as behind the last domain the chain goes on to none.
-fn put_fault(file: &mut [u8], c: Chain, s: Spot, seed: u32) {
-    let fault = s.fault;
-    if fault == 0 {
-        return;
-    }
+// Ends the chain after the records taken, or puts the fault there: 4 and 5 into the link, the others into the next record.
+// The number that 7 repeats is one of those taken.
+fn put_spot(file: &mut [u8], c: Chain, s: Spot, seed: u32) {
     let order = c.order;
     let from = before(order, s.taken);
-    let to = chain::record_at(order, s.taken);
-    let earlier = chain::record_at(order, s.taken / 2);
-    let damaged = if fault == 4 { from } else { to };
-    put_link(file, from, to);
-    match fault {
-        5 => put_link(file, from, earlier),
-        7 => copy_number(file, to, earlier),
-        _ => faults::damage(file, c, damaged, damage_of(fault, seed), seed),
+    if s.fault == 0 {
+        put_link(file, from, 0);
+        return;
     }
+    let mut reached = c;
+    reached.domains = s.taken;
+    let to = chain::record_at(order, s.taken);
+    put_link(file, from, to);
+    let record = if s.fault < 6 { from } else { to };
+    faults::damage(file, reached, record, damage_of(s.fault, seed), seed);
 }
 
-// Puts the file of a case and answers its length. A record more than the domains need is there, to be led to.
+// Puts the file of a case and answers its length: a chain of sixteen domains, and a record that may be behind it.
 pub fn put(file: &mut [u8], kind: u32, case: u32, seed: u32) -> u32 {
     let records = 18 + draw::upto(seed, 5, 46);
-    let s = spot_of(kind, case);
     bytes::fill(file, compare::LONGEST, seed, bytes::ANY);
-    let c = chain::lay(
-        file,
-        values::drawn(seed, style_of(kind, case)),
-        records,
-        s.domains,
-        seed,
-    );
-    put_fault(file, c, s, seed);
+    let p = values::drawn(seed, style_of(kind, case));
+    let c = chain::lay(file, p, records, seed);
+    put_spot(file, c, spot_of(kind, case), seed);
     records * 16
 }
 

@@ -1,6 +1,4 @@
 // The lines that are printed.
-use super::seen;
-use super::seen::Seen;
 use trial_kit::lines;
 use trial_kit::report;
 use trial_kit::report::say;
@@ -43,9 +41,8 @@ pub fn kind_line(t: Tally, kind: u32) {
     report::counts_line(t);
 }
 
-// What was seen, the refusals, the total, and where something differed its first kind and case.
-pub fn last_lines(t: Tally, s: Seen) {
-    seen::lines(s);
+// The refusals, the total, and where something differed its first kind and case.
+pub fn last_lines(t: Tally) {
     report::told_lines(t, &[1, 2, 3, 4, 5, 6, 7, 8, 9, 10, 51]);
     if t.alldiffer != 0 {
         say(b"first difference: ");

@@ -4,53 +4,57 @@ ghost use Prim.Native.Nat.{_<_};
 use trial_kit::bytes;
 use trial_kit::lines::say_nth;
 use trial_kit::report;
+use trial_kit::tally;
+use trial_kit::tally::Tally;
+use trial_kit::tally::Verdict;
 
-// Seven rows of 17 counts say after how many records, 0 to 16, the walks ended: with 4 to 9, one row each, and at the
-// chain's end. Behind the rows stand single counts, in the order of their names below.
-pub struct Seen {
-    pub counts: [u32; 128],
-}
-
-const ROWS: usize = 7;
-
+// The counts are lent. Eight rows of 17 say after how many records, 0 to 16, the walks ended: with 4 to 9, one row each, at
+// the chain's end, and before it began. Behind the rows stand single counts, in the order of their names below.
 const END: u32 = 6;
 
-const SUMS: usize = 119;
+const ROWS: usize = 8;
 
-const ABOVE: usize = 120;
+const SUMS: usize = 136;
 
-const WHOLE: usize = 121;
+const ABOVE: usize = 137;
 
-const MORE: usize = 122;
+const WHOLE: usize = 138;
 
-const MOST: usize = 123;
+const MORE: usize = 139;
 
-const OTHER: usize = 124;
+const MOST: usize = 140;
 
-fn count(seen: Seen, k: usize) -> u32 {
-    let at = k % 128;
-    seen.counts[at]
+const OTHER: usize = 141;
+
+// No count.
+const NONE: usize = 160;
+
+// A case compared: how many records were taken, the count of where the walk ended, and that of its sums.
+pub struct Outcome {
+    pub verdict: Verdict,
+    pub records: u32,
+    pub end: usize,
+    pub sums: usize,
 }
 
-fn raised(seen: Seen, k: usize, by: u32) -> Seen {
-    let mut after = seen;
-    let at = k % 128;
-    let x = count(seen, at);
-    if x < 1000000000 {
-        after.counts[at] = x + by % 65536;
+// The row of a refusal.
+fn row_of(number: u32) -> u32
+    ensures { λ r. ⌜ r < 8 ⌝ }
+{
+    match number {
+        0 | 10 => END,
+        4..=9 => number - 4,
+        _ => 7,
     }
-    after
 }
 
-// A walk that ended in a row after so many records.
-fn with_end(seen: Seen, row: u32, records: u32) -> Seen {
-    raised(seen, (row % 7 * 17 + records % 17) as usize, 1)
-}
-
-// The count that the last sum at a chain's end goes to.
-fn count_of(last: u32, period: u32) -> usize
+// The count of a walk's sums, of which the last is given: they never fall, so that it is above P where any is.
+fn sums_of(row: u32, last: u32, period: u32) -> usize
     requires { ⌜ period < 65536 ⌝ }
 {
+    if row != END {
+        return if last > period { ABOVE } else { NONE };
+    }
     if last == period {
         return WHOLE;
     }
@@ -60,48 +64,57 @@ fn count_of(last: u32, period: u32) -> usize
     if last == 65536 { MOST } else { OTHER }
 }
 
-// A walk with its refusal. The sums never fall, so that one of them is above P where the last is.
-fn with_walk(seen: Seen, number: u32, records: u32, last: u32, period: u32) -> Seen
-    requires { ⌜ period < 65536 ⌝ }
-{
-    match number {
-        0 | 10 => raised(with_end(seen, END, records), count_of(last, period), 1),
-        4..=9 => raised(
-            with_end(seen, number - 4, records),
-            ABOVE,
-            if last > period { 1 } else { 0 },
-        ),
-        _ => seen,
-    }
-}
-
-// The last of the sums told, or 0 where there is none.
-fn last_of(told: [u32; 16], records: u32) -> u32 {
-    if records == 0 {
-        return 0;
-    }
-    let k = ((records - 1) % 16) as usize;
-    told[k]
-}
-
 fn pair(low: u8, high: u8) -> u32
     ensures { λ r. ⌜ r < 65536 ⌝ }
 {
     low as u32 + high as u32 * 256
 }
 
-// A file that was compared, with the refusal that the model tells.
-pub fn with_file(seen: Seen, file: &[u8], number: u32) -> Seen {
+// A file that was compared. Where no record was taken, the sum read is the sixteenth, a zero.
+pub fn of_file(file: &[u8], v: Verdict) -> Outcome {
     let m = model_plans::sums(file);
     let told = m.told;
-    let period = pair(bytes::get(file, 0), bytes::get(file, 1));
-    with_walk(
-        raised(seen, SUMS, m.records),
-        number,
-        m.records,
-        last_of(told, m.records),
-        period,
-    )
+    let k = m.records % 17;
+    let last = told[((k + 15) % 16) as usize];
+    let row = row_of(v.number);
+    Outcome {
+        verdict: v,
+        records: k,
+        end: (17 * row + k) as usize,
+        sums: sums_of(row, last, pair(bytes::get(file, 0), bytes::get(file, 1))),
+    }
+}
+
+// A plan value that was compared.
+pub fn of_value(v: Verdict) -> Outcome {
+    Outcome {
+        verdict: v,
+        records: 0,
+        end: NONE,
+        sums: NONE,
+    }
+}
+
+fn count(seen: &[u32], k: usize) -> u32 {
+    if k < seen.len() { seen[k] } else { 0 }
+}
+
+fn raise(seen: &mut [u32], k: usize, by: u32) {
+    if k < seen.len() {
+        let x = seen[k];
+        if x < 1000000000 {
+            seen[k] = x + by % 65536;
+        }
+    }
+}
+
+// The tally and the counts with a case more.
+pub fn counted(t: Tally, kind: u32, case: u32, o: Outcome, seen: &mut [u32]) -> Tally {
+    let v = o.verdict;
+    raise(seen, SUMS, o.records);
+    raise(seen, o.end, 1);
+    raise(seen, o.sums, 1);
+    tally::counted(t, kind, case, v)
 }
 
 // The name of a row, or of a count behind them.
@@ -114,6 +127,7 @@ fn say_name(k: usize) {
         refused with 8 after 0 to 16 records\n\
         refused with 9 after 0 to 16 records\n\
         at the chain's end after 0 to 16 records\n\
+        refused with 1 to 3 after 0 to 16 records\n\
         sums compared\n\
         refused with 4 to 9 after a sum above P\n\
         last sums of P\n\
@@ -125,9 +139,8 @@ fn say_name(k: usize) {
 }
 
 // A name, and so many counts from one on.
-fn say_counts(seen: Seen, name: usize, from: usize, counts: usize)
-    requires { ⌜ from < 128 ⌝ }
-    requires { ⌜ counts < 128 ⌝ }
+fn say_counts(seen: &[u32], name: usize, from: usize, counts: usize)
+    requires { ⌜ (from < 160) × (counts < 160) ⌝ }
 {
     say_name(name);
     report::say(b":");
@@ -139,9 +152,9 @@ fn say_counts(seen: Seen, name: usize, from: usize, counts: usize)
     report::say(b"\n");
 }
 
-pub fn lines(seen: Seen) {
+pub fn lines(seen: &[u32]) {
     let mut k: usize = 0;
-    while k < 13 {
+    while k < 14 {
         if k < ROWS {
             say_counts(seen, k, 17 * k, 17);
         } else {

@@ -10,8 +10,8 @@
 //   walk                                  the sums told are those due, and no other
 // What is due begins anew after `read` and `walk`.
 use super::compare;
-use super::run;
-use super::run::Run;
+use super::seen;
+use super::seen::Outcome;
 use model_plans::Answer;
 use model_plans::Sums;
 use model_plans::words;
@@ -20,27 +20,29 @@ use trial_kit::given::put_in_file;
 use trial_kit::lines;
 use trial_kit::report;
 use trial_kit::tally;
+use trial_kit::tally::Tally;
 
 // The kind of all stated cases.
 pub const STATED: u32 = 0;
 
-// What is due: the period and the words of a plan, and sums.
-struct Due {
+// Where the reader stands: the case's number and where its name begins, the bytes so far of the plan file, and what is due:
+// the period and the words of a plan, and sums.
+struct Stand {
+    case: u32,
+    named: usize,
+    size: usize,
     period: u32,
     domains: [u32; 64],
     sums: Sums,
 }
 
-// The bytes so far of the plan file, where the case's name stands, and its number.
-struct Stand {
-    file: usize,
-    named: usize,
-    case: u32,
-}
-
-fn nothing() -> Due {
-    Due {
-        period: 0,
+// A stand with this period due, no domains and no sums.
+fn begun(case: u32, named: usize, size: usize, period: u32) -> Stand {
+    Stand {
+        case,
+        named,
+        size,
+        period,
         domains: [0; 64],
         sums: Sums {
             records: 0,
@@ -49,9 +51,9 @@ fn nothing() -> Due {
     }
 }
 
-fn with_domain(d: Due, given: &[u8], at: usize) -> Due {
-    let mut after = d;
-    let domains = d.domains;
+fn with_domain(p: Stand, given: &[u8], at: usize) -> Stand {
+    let mut after = p;
+    let domains = p.domains;
     let next = words::with_domain(
         domains,
         lines::small(given, at, 7, 2),
@@ -64,9 +66,9 @@ fn with_domain(d: Due, given: &[u8], at: usize) -> Due {
 }
 
 // A sum more. Of more than sixteen the count alone tells.
-fn with_sum(d: Due, sum: u32) -> Due {
-    let mut after = d;
-    let mut s = d.sums;
+fn with_sum(p: Stand, sum: u32) -> Stand {
+    let mut after = p;
+    let mut s = p.sums;
     let k = (s.records % 16) as usize;
     s.told[k] = sum;
     s.records = tally::more(s.records);
@@ -74,109 +76,105 @@ fn with_sum(d: Due, sum: u32) -> Due {
     after
 }
 
-fn with_period(d: Due, period: u32) -> Due {
-    let mut after = d;
-    after.period = period;
+fn with_size(p: Stand, size: usize) -> Stand {
+    let mut after = p;
+    after.size = size;
     after
-}
-
-// What is due after a line.
-fn due_after(d: Due, given: &[u8], at: usize) -> Due {
-    match lines::byte(given, at) {
-        b'p' => with_period(d, lines::small(given, at, 5, 5)),
-        b'd' => with_domain(d, given, at),
-        b't' => with_sum(d, (lines::number(given, at, 5, 7) % 4294967296) as u32),
-        b'c' | b'r' | b'w' => nothing(),
-        _ => d,
-    }
 }
 
 // The stand after a line; a case's name is behind the word.
 fn stand_after(p: Stand, given: &[u8], at: usize, file: &mut [u8]) -> Stand {
     match lines::byte(given, at) {
-        b'c' => Stand {
-            file: 0,
-            named: std::num::wrapping_add_usize(at, 5),
-            case: tally::more(p.case),
-        },
-        b'f' | b'a' | b's' => Stand {
-            file: put_in_file(file, p.file, given, at),
-            named: p.named,
-            case: p.case,
-        },
+        b'c' => begun(
+            tally::more(p.case),
+            std::num::wrapping_add_usize(at, 5),
+            0,
+            0,
+        ),
+        b'r' | b'w' => begun(p.case, p.named, p.size, 0),
+        b'p' => begun(p.case, p.named, p.size, lines::small(given, at, 5, 5)),
+        b'd' => with_domain(p, given, at),
+        b't' => with_sum(p, (lines::number(given, at, 5, 7) % 4294967296) as u32),
+        b'f' | b'a' | b's' => with_size(p, put_in_file(file, p.size, given, at)),
         _ => p,
     }
 }
 
 // Whether the model reads the file as is due.
-fn reads(d: Due, file: &[u8], given: &[u8], at: usize) -> bool {
-    let domains = d.domains;
+fn reads(p: Stand, given: &[u8], at: usize, file: &[u8]) -> bool {
+    let domains = p.domains;
     let due = Answer {
         number: lines::small(given, at, 5, 2),
         place: lines::small(given, at, 8, 5),
-        period: d.period,
+        period: p.period,
         domains,
     };
     compare::same_answers(model_plans::read(file), due)
 }
 
 // Whether the model tells the sums that are due.
-fn walks(d: Due, file: &[u8]) -> bool {
-    let due = d.sums;
+fn walks(p: Stand, file: &[u8]) -> bool {
+    let due = p.sums;
     compare::same_sums(model_plans::sums(file), due)
 }
 
-fn holds(d: Due, file: &[u8], given: &[u8], at: usize) -> bool {
+fn holds(p: Stand, given: &[u8], at: usize, file: &[u8]) -> bool {
     if lines::byte(given, at) == b'r' {
-        reads(d, file, given, at)
+        reads(p, given, at, file)
     } else {
-        walks(d, file)
+        walks(p, file)
     }
 }
 
-fn compared(r: Run, case: u32, d: Due, given: &[u8], at: usize, file: &[u8]) -> Run {
-    run::with_file(r, STATED, case, file, case, holds(d, file, given, at))
+fn compared(p: Stand, given: &[u8], at: usize, file: &[u8]) -> Outcome {
+    let v = compare::file(file, p.case, holds(p, given, at, file));
+    seen::of_file(file, v)
 }
 
 // The counts of a case are printed before the next begins.
-fn closed(r: Run, p: Stand, given: &[u8]) -> Run {
-    let t = r.tally;
+fn closed(t: Tally, p: Stand, given: &[u8]) -> Tally {
     if p.case > 0 {
         lines::say_line(given, p.named);
         report::counts_line(t);
     }
-    run::next_kind(r)
+    tally::next_kind(t)
 }
 
-// The run after a line.
-fn run_after(r: Run, p: Stand, d: Due, given: &[u8], at: usize, file: &[u8]) -> Run {
-    let size = bytes::least(p.file, file.len());
+// The tally after a line.
+fn tally_after(
+    t: Tally,
+    p: Stand,
+    given: &[u8],
+    at: usize,
+    file: &[u8],
+    seen: &mut [u32],
+) -> Tally {
+    let size = bytes::least(p.size, file.len());
     match lines::byte(given, at) {
-        b'c' => closed(r, p, given),
-        b'r' | b'w' => compared(r, p.case, d, given, at, &file[0..size]),
-        _ => r,
+        b'c' => closed(t, p, given),
+        b'r' | b'w' => seen::counted(
+            t,
+            STATED,
+            p.case,
+            compared(p, given, at, &file[0..size]),
+            seen,
+        ),
+        _ => t,
     }
 }
 
 // All cases of the text. Its last line begins a case without a name, so that the one before is printed.
-pub fn cases(before: Run, given: &[u8]) -> Run {
+pub fn cases(before: Tally, given: &[u8], seen: &mut [u32]) -> Tally {
     let mut file = [0u8; 1040];
-    let mut r = before;
-    let mut p = Stand {
-        file: 0,
-        named: 0,
-        case: 0,
-    };
-    let mut d = nothing();
+    let mut t = before;
+    let mut p = begun(0, 0, 0, 0);
     let mut at: usize = 0;
     while at < given.len() {
-        let run = run_after(r, p, d, given, at, &file);
+        let tally = tally_after(t, p, given, at, &file, seen);
         let stand = stand_after(p, given, at, &mut file);
-        let due = due_after(d, given, at);
-        r = run;
+        t = tally;
         p = stand;
-        d = due;
         at = lines::after_line(given, at);
     }
-    r
+    t
 }

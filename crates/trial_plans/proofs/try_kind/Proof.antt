@@ -2,14 +2,16 @@
 -- Assumes nothing.
 use Prim.Native.Nat.{_≤_, _-_}
 use borrow.Author.Needs.{needs}
+use mathlib.Core.Path.{_≡_}
+use lib.ListN.{length}
 use Rattle.trial_plans.proofs.try_kind.Statement.{statement}
 use Rattle.trial_plans.proofs.try_kind.Tie as tie
 
 abbrev Inv-loop : tie.InvT-loop
-Inv-loop kind r₀ most case₀ r case = case ≤ most
+Inv-loop kind seen₀ t₀ most case₀ seen t case = (case ≤ most) × (length seen ≡ length seen₀)
 
 abbrev μ-loop : tie.MeasureT-loop
-μ-loop kind r₀ most case₀ r case = most - case
+μ-loop kind seen₀ t₀ most case₀ seen t case = most - case
 
 pub try-kind-spec : {M : Type 1} → statement M
 try-kind-spec =
@@ -21,8 +23,10 @@ try-kind-spec =
     (λ c κs. search needs)
     (λ c. search needs)
     (λ c κs. search needs)
+    (λ c κs. search needs)
     (λ c. search needs)
     (λ c. search needs)
     (λ c. search needs)
     (λ c κs. search needs)
+    (λ c. search needs)
     (λ c. search needs))

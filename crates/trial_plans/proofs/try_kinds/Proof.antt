@@ -2,14 +2,16 @@
 -- Assumes nothing.
 use Prim.Native.Nat.{_≤_, _-_}
 use borrow.Author.Needs.{needs}
+use mathlib.Core.Path.{_≡_}
+use lib.ListN.{length}
 use Rattle.trial_plans.proofs.try_kinds.Statement.{statement}
 use Rattle.trial_plans.proofs.try_kinds.Tie as tie
 
 abbrev Inv-loop : tie.InvT-loop
-Inv-loop r₀ kind₀ r kind = kind ≤ 26
+Inv-loop seen₀ t₀ kind₀ seen t kind = (kind ≤ 26) × (length seen ≡ length seen₀)
 
 abbrev μ-loop : tie.MeasureT-loop
-μ-loop r₀ kind₀ r kind = 26 - kind
+μ-loop seen₀ t₀ kind₀ seen t kind = 26 - kind
 
 pub try-kinds-spec : {M : Type 1} → statement M
 try-kinds-spec =
@@ -19,6 +21,7 @@ try-kinds-spec =
     μ-loop
     (λ c. search needs)
     (λ c κs. search needs)
+    (λ c. search needs)
     (λ c. search needs)
     (λ c. search needs)
     (λ c. search needs)

@@ -1,4 +1,4 @@
--- `trial_plans::seen::lines` prints thirteen lines and ends.
+-- `trial_plans::seen::lines` prints fourteen lines and ends.
 -- Assumes nothing.
 use Prim.Native.Nat.{_≤_, _-_}
 use borrow.Author.Needs.{needs}
@@ -6,10 +6,10 @@ use Rattle.trial_plans.proofs.seen.lines.Statement.{statement}
 use Rattle.trial_plans.proofs.seen.lines.Tie as tie
 
 abbrev Inv-loop : tie.InvT-loop
-Inv-loop seen k₀ k = k ≤ 13
+Inv-loop seen k₀ k = k ≤ 14
 
 abbrev μ-loop : tie.MeasureT-loop
-μ-loop seen k₀ k = 13 - k
+μ-loop seen k₀ k = 14 - k
 
 pub lines-spec : {M : Type 1} → statement M
 lines-spec =

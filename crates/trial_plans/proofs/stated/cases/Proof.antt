@@ -8,10 +8,10 @@ use Rattle.trial_plans.proofs.stated.cases.Statement.{statement}
 use Rattle.trial_plans.proofs.stated.cases.Tie as tie
 
 abbrev Inv-loop : tie.InvT-loop
-Inv-loop given file₀ r₀ p₀ d₀ at₀ file r p d at = length file ≡ 1040
+Inv-loop given seen₀ file₀ t₀ p₀ at₀ seen file t p at = (length seen ≡ length seen₀) × (length file ≡ 1040)
 
 abbrev μ-loop : tie.MeasureT-loop
-μ-loop given file₀ r₀ p₀ d₀ at₀ file r p d at = length given - at
+μ-loop given seen₀ file₀ t₀ p₀ at₀ seen file t p at = length given - at
 
 pub cases-spec : {M : Type 1} → statement M
 cases-spec =
@@ -26,7 +26,7 @@ cases-spec =
     (λ c. search needs)
     (λ c κs. search needs)
     (λ c κs. search needs)
-    (λ c κs. search needs)
+    (λ c. search needs)
     (λ c. search needs)
     (λ c. search needs)
     (λ c. search needs))
