@@ -11,7 +11,7 @@ use trial_kit::draw;
 use trial_kit::values;
 
 // A plan in so many records, those off the chain of any bytes.
-fn put_plan(file: &mut [u8], p: Plan, records: u32, seed: u32) -> Chain {
+pub fn put_plan(file: &mut [u8], p: Plan, records: u32, seed: u32) -> Chain {
     bytes::fill(file, compare::LONGEST, seed, bytes::ANY);
     chain::lay(file, p, records, seed)
 }

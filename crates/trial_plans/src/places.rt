@@ -1,8 +1,8 @@
 // The files of the kinds 23 to 25, made for the sums along the chain: how many records are taken of each is known.
 use super::chain;
 use super::chain::Chain;
-use super::compare;
 use super::faults;
+use super::files;
 use trial_kit::bytes;
 use trial_kit::draw;
 use trial_kit::tally::both;
@@ -25,13 +25,17 @@ fn place(fault: u32, turn: u32) -> u32 {
 
 // In kind 25 the chain ends after 0 to 16 records, and has no fault.
 fn spot_of(kind: u32, case: u32) -> Spot {
-    let fault = if kind == 25 { 0 } else { 4 + case % 6 };
-    let taken = if kind == 25 {
-        case % 17
-    } else {
-        place(fault, case / 6)
-    };
-    Spot { fault, taken }
+    if kind == 25 {
+        return Spot {
+            fault: 0,
+            taken: case % 17,
+        };
+    }
+    let fault = 4 + case % 6;
+    Spot {
+        fault,
+        taken: place(fault, case / 6),
+    }
 }
 
 // The plan's style: sixteen domains whose Q come to P in kind 23, mostly to more in 24, and in 25 to either or to 65,536.
@@ -56,13 +60,10 @@ fn before(order: [u32; 64], taken: u32) -> u32 {
     }
 }
 
-fn put_link(file: &mut [u8], from: u32, to: u32) {
-    bytes::put_pair(file, from, chain::link_offset(from), to);
-}
-
-// A damage that surely draws the fault.
+// A damage that surely draws the fault; for none the link is put to 0.
 fn damage_of(fault: u32, seed: u32) -> u32 {
     match fault {
+        0 => faults::LINKS + 5,
         4 => faults::LINKS + draw::upto(seed, 710, 2),
         5 => faults::LINKS + 3,
         6 => faults::NUMBERS + draw::upto(seed, 710, 2),
@@ -76,15 +77,11 @@ fn damage_of(fault: u32, seed: u32) -> u32 {
 // The number that 7 repeats is one of those taken.
 fn put_spot(file: &mut [u8], c: Chain, s: Spot, seed: u32) {
     let order = c.order;
-    let from = before(order, s.taken);
-    if s.fault == 0 {
-        put_link(file, from, 0);
-        return;
-    }
     let mut reached = c;
     reached.domains = s.taken;
+    let from = before(order, s.taken);
     let to = chain::record_at(order, s.taken);
-    put_link(file, from, to);
+    bytes::put_pair(file, from, chain::link_offset(from), to);
     let record = if s.fault < 6 { from } else { to };
     faults::damage(file, reached, record, damage_of(s.fault, seed), seed);
 }
@@ -92,9 +89,8 @@ fn put_spot(file: &mut [u8], c: Chain, s: Spot, seed: u32) {
 // Puts the file of a case and answers its length: a chain of sixteen domains, and a record that may be behind it.
 pub fn put(file: &mut [u8], kind: u32, case: u32, seed: u32) -> u32 {
     let records = 18 + draw::upto(seed, 5, 46);
-    bytes::fill(file, compare::LONGEST, seed, bytes::ANY);
     let p = values::drawn(seed, style_of(kind, case));
-    let c = chain::lay(file, p, records, seed);
+    let c = files::put_plan(file, p, records, seed);
     put_spot(file, c, spot_of(kind, case), seed);
     records * 16
 }

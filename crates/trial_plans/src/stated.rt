@@ -23,7 +23,7 @@ use trial_kit::tally;
 use trial_kit::tally::Tally;
 
 // The kind of all stated cases.
-pub const STATED: u32 = 0;
+const STATED: u32 = 0;
 
 // Where the reader stands: the case's number and where its name begins, the bytes so far of the plan file, and what is due:
 // the period and the words of a plan, and sums.
