@@ -10,7 +10,8 @@ use Rattle.table.specs.Sums.{nth}
 use Rattle.table.specs.Lines.{firstOf}
 use Rattle.plan.specs.Value.{planOf, reservedOf}
 use Rattle.plan.specs.Records.{periodIn}
-use Rattle.plan.specs.Chain.{chainOf, domainsIn, sumsIn, lastSum, sumsHeld}
+use Rattle.plan.specs.Chain.{chainOf, domainsIn, sumsIn, lastSum}
+use Rattle.plan.specs.Walk.{sumsHeld}
 use Rattle.plan.specs.Reading.{headTable, refusedReading, acceptedReading, wayTable, readPlan}
 use Rattle.plan.specs.declared.chain.Sums.{Sums}
 use Rattle.plan.specs.declared.reading.Reading.{Reading}

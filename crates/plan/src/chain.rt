@@ -11,7 +11,8 @@ ghost use lib.ListN.{length, getD};
 ghost use Rattle.table.specs.Lines.{firstOf};
 ghost use Rattle.plan.specs.Value.{noDomains};
 ghost use Rattle.plan.specs.Records.{recordAt};
-ghost use Rattle.plan.specs.Chain.{unlisted, linkTable, recordTable, sumsHeld, withSum, withRecord, walkedOf};
+ghost use Rattle.plan.specs.Chain.{unlisted, linkTable, recordTable};
+ghost use Rattle.plan.specs.Walk.{sumsHeld, withSum, withRecord, walkedOf};
 
 // The sums that the walk tells: how many records it took, and after each of them the sum of what the domains met so far
 // reserve. Zeros stand behind the last.

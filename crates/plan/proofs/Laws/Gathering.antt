@@ -9,7 +9,8 @@ use lib.ListN.{length, length-append}
 use Rattle.table.specs.Members.{has, lastOf}
 use Rattle.table.proofs.Flags.{last-none, last-snoc}
 use Rattle.plan.specs.Value.{noDomains, reserves}
-use Rattle.plan.specs.Chain.{sumsFrom, sumsHeld, withSum, withRecord}
+use Rattle.plan.specs.Chain.{sumsFrom}
+use Rattle.plan.specs.Walk.{sumsHeld, withSum, withRecord}
 use Rattle.plan.specs.declared.value.Domain.{Domain}
 use Rattle.plan.specs.declared.chain.Sums.{Sums}
 use Rattle.plan.specs.declared.chain.Gathered.{Gathered}

@@ -2,15 +2,17 @@
 -- hold them.
 -- Assumes nothing.
 use mathlib.Core.Path.{_≡_, refl, sym, ap, _∙_}
-use mathlib.Core.List.{List, [], _∷_, _++_}
+use mathlib.Core.List.{List, [], _∷_, _++_, append-assoc}
 use Prim.Native.Nat.{ℕ, zero, suc, _+_, _-_, _<_}
 use native.Mathlib.Nat.{zero-add}
 use native.Mathlib.Omega.{arith}
 use lib.ListN.{length, getD, take, set, replicate, length-append}
+use lib.Seq.{set-append-seam}
 use Rattle.table.specs.Sums.{sum}
 use Rattle.table.specs.Members.{lastOf}
 use Rattle.plan.specs.Value.{reserves, reservedOf}
-use Rattle.plan.specs.Chain.{sumsFrom, sumsHeld, withSum}
+use Rattle.plan.specs.Chain.{sumsFrom}
+use Rattle.plan.specs.Walk.{sumsHeld, withSum}
 use Rattle.plan.specs.declared.value.Domain.{Domain}
 
 -- none yet, and one more at the end
@@ -43,17 +45,13 @@ sums-last b (d ∷ ds) = omega (arith, sums-last (b + reserves d) ds)
 pub sums-all : (ds : List Domain) → lastOf 0 (sumsFrom 0 ds) ≡ reservedOf ds
 sums-all ds = sums-last 0 ds ∙ zero-add (reservedOf ds)
 
--- the first of the zeros behind a list is set
-set-behind : (l : List ℕ) (n x : ℕ) → set (l ++ replicate (suc n) 0) (length l) x ≡ (l ++ (x ∷ [])) ++ replicate n 0
-set-behind [] n x = refl
-set-behind (y ∷ l) n x = ap (λ (r : List ℕ). y ∷ r) (set-behind l n x)
-
 -- where the places hold a list, they hold it with one sum more
 pub held-sum : (l : List ℕ) (x : ℕ) → length l < 16 → withSum (sumsHeld l) x ≡ sumsHeld (l ++ (x ∷ []))
 held-sum l x h =
     let more : length l + 1 ≡ length (l ++ (x ∷ [])) = sym (length-append l (x ∷ [])) in
     let left : 16 - length l ≡ suc (16 - (length l + 1)) = omega arith in
     let places : set (l ++ replicate (16 - length l) 0) (length l) x ≡ (l ++ (x ∷ [])) ++ replicate (16 - length (l ++ (x ∷ []))) 0 =
-    ap (λ (n : ℕ). set (l ++ replicate n 0) (length l) x) left ∙ set-behind l (16 - (length l + 1)) x
+    ap (λ (n : ℕ). set (l ++ replicate n 0) (length l) x) left ∙ set-append-seam l 0 (replicate (16 - (length l + 1)) 0) x
+    ∙ sym (append-assoc l (x ∷ []) (replicate (16 - (length l + 1)) 0))
     ∙ ap (λ (n : ℕ). (l ++ (x ∷ [])) ++ replicate (16 - n) 0) more in
     λ i. record { records = more i; told = places i }

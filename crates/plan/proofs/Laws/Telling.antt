@@ -13,7 +13,8 @@ use Rattle.table.specs.Lines.{firstOf}
 use Rattle.table.proofs.Tables.{miss, hit}
 use Rattle.plan.specs.Value.{planOf, reservedOf}
 use Rattle.plan.specs.Records.{periodIn, domainAt}
-use Rattle.plan.specs.Chain.{chainOf, AtMostSixteen, domainsIn, sumsIn, sumsHeld, walkedOf}
+use Rattle.plan.specs.Chain.{chainOf, AtMostSixteen, domainsIn, sumsIn}
+use Rattle.plan.specs.Walk.{sumsHeld, walkedOf}
 use Rattle.plan.specs.Reading.{headTable, refusedReading, acceptedReading, wayTable, readPlan}
 use Rattle.plan.specs.Sums.{sumsTold, SumsArePlain, NoAnswerChanges}
 use Rattle.plan.specs.declared.chain.Walked.{Walked}

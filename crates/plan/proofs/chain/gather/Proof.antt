@@ -5,7 +5,7 @@ use Prim.Native.Nat.{ℕ, _+_}
 use native.Mathlib.Omega.{arith}
 use borrow.Author.Needs.{needs}
 use Rattle.plan.specs.Value.{reserves}
-use Rattle.plan.specs.Chain.{withSum}
+use Rattle.plan.specs.Walk.{withSum}
 use Rattle.plan.proofs.chain.gather.Statement.{statement}
 use Rattle.plan.proofs.chain.gather.Tie as tie
 
