@@ -5,7 +5,7 @@ ghost use Prim.Native.Nat.{_-_};
 ghost use lib.ListN.{length};
 ghost use Rattle.plan.specs.Value.{noDomains};
 ghost use Rattle.regulator.specs.State.{addsUp, yielding};
-ghost use Rattle.regulator.specs.Turn.{granted as grantedIn, verdicts as verdictsOf};
+ghost use Rattle.regulator.specs.Turn.{granted as grantedIn, stepsOf, verdicts as verdictsOf};
 ghost use Rattle.regulator.specs.Refusals.{slotRefusal, yieldRefusal};
 ghost use Rattle.regulator.specs.Calls.{openPlan, oneSlot, slotOf, verdictsIn, yieldOf};
 use super::close;
@@ -15,6 +15,7 @@ use super::refusals;
 use super::state;
 use super::state::State;
 use super::turn;
+use super::turn::Picked;
 use super::verdict;
 use plan::Plan;
 
@@ -66,17 +67,18 @@ pub fn open(p: Plan) -> Opening
     }
 }
 
-// The verdicts of a slot, to the lent buffer, and the number that is granted, or 17.
-fn tell_verdicts(s: State, offers: &[u8], verdicts: &mut [u8]) -> usize
+// The verdicts of a slot, to the lent buffer, and the number that is granted, or 17, with its steps.
+fn tell_verdicts(s: State, offers: &[u8], verdicts: &mut [u8]) -> Picked
     requires { ⌜ slotRefusal s (now offers) (length (now verdicts)) ≡ 0 ⌝ }
-    ensures granted { λ r. ⌜ r ≡ grantedIn s (now (offers .entry)) ⌝ }
+    ensures granted { λ r. ⌜ r .number ≡ grantedIn s (now (offers .entry)) ⌝ }
+    ensures steps { λ r. ⌜ r .steps ≡ stepsOf s (now (offers .entry)) ⌝ }
     ensures shown { λ r. ⌜ now (verdicts .exit) ≡ verdictsOf s (now (offers .entry)) ⌝ }
 {
     let blocked = verdict::is_blocked(s, offers);
     verdict::rule(s, offers, blocked, verdicts);
-    let n = turn::pick(verdicts, s.turn);
-    turn::mark(verdicts, n);
-    n
+    let picked = turn::pick(verdicts, s.turn);
+    turn::mark(verdicts, picked.number);
+    picked
 }
 
 // One slot, of a call that is not refused.
@@ -85,9 +87,10 @@ fn decide(s: State, offers: &[u8], verdicts: &mut [u8]) -> Answer
     ensures answer { λ r. ⌜ r ≡ oneSlot s (now (offers .entry)) ⌝ }
     ensures shown { λ r. ⌜ now (verdicts .exit) ≡ verdictsOf s (now (offers .entry)) ⌝ }
 {
-    let n = tell_verdicts(s, offers, verdicts);
-    let t = grant::grant_number(s, offers, n);
-    close::end(grant::go_on(t, n))
+    let picked = tell_verdicts(s, offers, verdicts);
+    let t = grant::grant_number(s, offers, picked.number);
+    let next = grant::go_on(t, picked.number, picked.steps);
+    close::end(next, picked.steps)
 }
 
 // A slot call on a state that adds up, as every state of a run does.
@@ -98,7 +101,7 @@ pub fn run_slot(s: State, offers: &[u8], verdicts: &mut [u8]) -> Answer
 {
     let n = refusals::check_slot(s, offers, verdicts.len());
     if n != 0 {
-        return close::without_counts(n, s);
+        return close::without_counts(n, s, 0);
     }
     decide(s, offers, verdicts)
 }
@@ -111,7 +114,7 @@ pub fn slot(s: State, offers: &[u8], verdicts: &mut [u8]) -> Answer
     if state::adds_up(s) {
         run_slot(s, offers, verdicts)
     } else {
-        close::without_counts(30, s)
+        close::without_counts(30, s, 0)
     }
 }
 

@@ -13,15 +13,18 @@ pub struct Counts {
     pub reclaimed: [u16; 16],
     pub yielded: [u16; 16],
     pub writebacks: [u16; 16],
+    pub steps: u32,
 }
 
 // What a slot call answers: 0 or the number of a refusal, the state, and, where the slot completed a period, its counts;
-// else they are zeros.
+// else they are zeros. Then the steps: how many numbers were asked and passed by before the granted one, 17 in an idle
+// slot, 0 where the call is refused.
 pub struct Answer {
     pub refused: u8,
     pub state: State,
     pub complete: bool,
     pub counts: Counts,
+    pub steps: u32,
 }
 
 fn counts_of(s: State) -> Counts
@@ -38,12 +41,13 @@ fn counts_of(s: State) -> Counts
         reclaimed,
         yielded,
         writebacks,
+        steps: s.steps,
     }
 }
 
 // An answer without counts.
-pub(crate) fn without_counts(n: u8, s: State) -> Answer
-    ensures { λ r. ⌜ r ≡ withoutCounts n s ⌝ }
+pub(crate) fn without_counts(n: u8, s: State, steps: u32) -> Answer
+    ensures { λ r. ⌜ r ≡ withoutCounts n s steps ⌝ }
 {
     let none = Counts {
         idle: 0,
@@ -52,19 +56,21 @@ pub(crate) fn without_counts(n: u8, s: State) -> Answer
         reclaimed: [0; 16],
         yielded: [0; 16],
         writebacks: [0; 16],
+        steps: 0,
     };
     Answer {
         refused: n,
         state: s,
         complete: false,
         counts: none,
+        steps,
     }
 }
 
 // The answer of a decided slot.
-pub(crate) fn end(s: State) -> Answer
+pub(crate) fn end(s: State, steps: u32) -> Answer
     requires { ⌜ s .closed < 4294967295 ⌝ }
-    ensures { λ r. ⌜ r ≡ ended s ⌝ }
+    ensures { λ r. ⌜ r ≡ ended s steps ⌝ }
 {
     let p = s.plan;
     if s.decided == p.period {
@@ -75,8 +81,9 @@ pub(crate) fn end(s: State) -> Answer
             state: next,
             complete: true,
             counts: all,
+            steps,
         }
     } else {
-        without_counts(0, s)
+        without_counts(0, s, steps)
     }
 }

@@ -108,13 +108,15 @@ fn turn_after(turn: usize, n: usize) -> usize
 }
 
 // The slot is decided.
-pub(crate) fn go_on(s: State, n: usize) -> State
+pub(crate) fn go_on(s: State, n: usize, steps: u32) -> State
     requires { ⌜ n ≤ 17 ⌝ }
     requires { ⌜ s .decided < 65535 ⌝ }
-    ensures { λ r. ⌜ r ≡ onward s n ⌝ }
+    requires { ⌜ s .steps + steps < 4294967296 ⌝ }
+    ensures { λ r. ⌜ r ≡ onward s n steps ⌝ }
 {
     let mut t = s;
     t.decided = s.decided + 1;
     t.turn = turn_after(s.turn, n);
+    t.steps = s.steps + steps;
     t
 }

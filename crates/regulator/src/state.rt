@@ -1,15 +1,15 @@
 // The state of a period: where it begins, whether it adds up, and what a yield moves.
 ghost use mathlib.Core.Path.{_≡_};
 ghost use mathlib.Core.Bool.{_&&_};
-ghost use Prim.Native.Nat.{_+_, _<_, _≤_};
+ghost use Prim.Native.Nat.{_+_, _-_, _<_, _≤_};
 ghost use Rattle.table.specs.Sums.{nth};
 ghost use Rattle.table.specs.Ranges.{everyBelow};
-ghost use Rattle.regulator.specs.State.{begun, numbersAddUp, domainAddsUp, sumsAddUp, addsUp, yielding};
+ghost use Rattle.regulator.specs.State.{begun, numbersAddUp, domainAddsUp, sumsAddUp, stepsAddUp, addsUp, yielding};
 use super::numbers;
 use plan::Plan;
 
 // The state of a period. Index n - 1 of the arrays is domain number n; decided is the number of slots decided, closed of
-// periods closed, best of best-effort passes.
+// periods closed, best of best-effort passes, and steps of the numbers asked and passed by in the period.
 pub struct State {
     pub plan: Plan,
     pub decided: u16,
@@ -23,6 +23,7 @@ pub struct State {
     pub reclaimed: [u16; 16],
     pub yielded: [u16; 16],
     pub writebacks: [u16; 16],
+    pub steps: u32,
 }
 
 // A period begins.
@@ -43,6 +44,7 @@ pub(crate) fn begin(p: Plan, closed: u32, turn: usize) -> State
         reclaimed: [0; 16],
         yielded: [0; 16],
         writebacks: [0; 16],
+        steps: 0,
     }
 }
 
@@ -104,10 +106,26 @@ fn sums_add_up(
         && idle as u32 + best as u32 + reserved + reclaimed == decided as u32
 }
 
-fn all_five(a: bool, b: bool, c: bool, d: bool, e: bool) -> bool
-    ensures { λ r. ⌜ r ≡ (a && (b && (c && (d && e)))) ⌝ }
+// The slots that were not idle.
+fn granted_slots(decided: u16, idle: u16) -> u16
+    ensures { λ r. ⌜ r ≡ decided - idle ⌝ }
 {
-    a && (b && (c && (d && e)))
+    if idle < decided { decided - idle } else { 0 }
+}
+
+// Does the running sum of steps add up? 17 for each idle slot, and at most 16 for each other.
+fn steps_add_up(steps: u32, idle: u16, decided: u16) -> bool
+    ensures { λ b. ⌜ b ≡ stepsAddUp steps idle decided ⌝ }
+{
+    let least = 17 * idle as u32;
+    let most = least + 16 * granted_slots(decided, idle) as u32;
+    least <= steps && steps <= most
+}
+
+fn all_six(a: bool, b: bool, c: bool, d: bool, e: bool, f: bool) -> bool
+    ensures { λ r. ⌜ r ≡ (a && (b && (c && (d && (e && f))))) ⌝ }
+{
+    a && (b && (c && (d && (e && f))))
 }
 
 // Does a state add up?
@@ -129,12 +147,14 @@ pub(crate) fn adds_up(s: State) -> bool
         table::total(reclaimed),
         table::total(yielded),
     );
-    all_five(
+    let steps = steps_add_up(s.steps, s.idle, s.decided);
+    all_six(
         refusal.refused == 0,
         s.decided < p.period,
         s.turn <= 16,
         domains,
         sums,
+        steps,
     )
 }
 

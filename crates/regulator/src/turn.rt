@@ -1,10 +1,10 @@
-// The turn: the number that is granted, and its verdict.
+// The turn: the number that is granted, the steps to it, and its verdict.
 ghost use mathlib.Core.Path.{_≡_};
 ghost use Prim.Native.Nat.{_≤_};
 ghost use lib.Dec.{eqb};
 ghost use lib.ListN.{length, set};
 ghost use Rattle.table.specs.Sums.{nth};
-ghost use Rattle.regulator.specs.Turn.{after, ask};
+ghost use Rattle.regulator.specs.Turn.{after, ask, distance};
 
 // The number after n: round from 16 to 0.
 pub(crate) fn next_number(n: usize) -> usize
@@ -14,20 +14,33 @@ pub(crate) fn next_number(n: usize) -> usize
     if n == 16 { 0 } else { n + 1 }
 }
 
-// The first number from the turn on whose ruling is 2, or 17.
-pub(crate) fn pick(rulings: &[u8], turn: usize) -> usize
+// The number that is granted, or 17, and how many were asked and passed by before it.
+pub struct Picked {
+    pub number: usize,
+    pub steps: u32,
+}
+
+// The first number from the turn on whose ruling is 2, or 17; and how far it is from the turn.
+pub(crate) fn pick(rulings: &[u8], turn: usize) -> Picked
     requires { ⌜ length (now rulings) ≡ 17 ⌝ }
     requires { ⌜ turn ≤ 16 ⌝ }
-    ensures { λ r. ⌜ r ≡ ask (λ n. eqb (nth (now (rulings .entry)) n) 2) turn 17 ⌝ }
+    ensures number { λ r. ⌜ r .number ≡ ask (λ n. eqb (nth (now (rulings .entry)) n) 2) turn 17 ⌝ }
+    ensures steps { λ r. ⌜ r .steps ≡ distance turn (r .number) ⌝ }
 {
     let mut n = turn;
-    let mut left: usize = 17;
+    let mut left: u32 = 17;
     loop {
         if left == 0 {
-            break 17;
+            break Picked {
+                number: 17,
+                steps: 17,
+            };
         }
         if rulings[n] == 2 {
-            break n;
+            break Picked {
+                number: n,
+                steps: 17 - left,
+            };
         }
         n = next_number(n);
         left -= 1;

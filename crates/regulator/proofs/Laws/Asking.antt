@@ -1,33 +1,28 @@
 -- Laws of the turn: the number after one, one number asked, and what the answer tells.
 -- Assumes nothing.
-use mathlib.Core.Path.{_≡_, refl, ap, ap₂, _∙_}
+use mathlib.Core.Path.{_≡_, refl, sym, ap, ap₂, _∙_}
 use mathlib.Core.Logic.{_≢_, _⊎_, inl, inr}
 use mathlib.Core.Bool.{Bool, true, false, cond}
-use Prim.Native.Nat.{ℕ, zero, suc, _+_, _-_, _≤_, _<_}
-use native.Mathlib.Nat.{zero-add, suc-add}
-use native.Mathlib.Numerals.{sub-one}
-use native.Mathlib.Decide.{decLe}
+use Prim.Native.Nat.{ℕ, zero, suc, _+_, _-_, _%_, _≤_, _<_}
+use native.Mathlib.Numerals.{add-one, sub-one}
+use native.Mathlib.Decide.{ℕ-discrete}
 use native.Mathlib.Omega.{arith}
 use lib.Dec.{eqb}
-use borrow.Author.Tests.{eqb-false, eq-eqb, ne-eqb}
+use borrow.Author.Tests.{eq-eqb, ne-eqb}
 use Rattle.table.proofs.Tables.{miss, hit}
-use Rattle.regulator.specs.Turn.{after, ask}
+use Rattle.regulator.specs.Turn.{after, ask, passedBy, distance}
 
-pub after-last : (n : ℕ) → n ≡ 16 → after n ≡ 0
+-- the numbers go round
+pub after-is : (n : ℕ) → n ≤ 16 → after n ≡ (n + 1) % 17
 unfolding after
-after-last n e = hit _ _ _ (eq-eqb n 16 e)
-
-pub after-next : (n : ℕ) → n ≢ 16 → after n ≡ n + 1
-unfolding after
-after-next n h = miss _ _ _ (ne-eqb n 16 h)
+after-is n h = go (ℕ-discrete n 16)
+  where
+    go : Dec (n ≡ 16) → cond (eqb n 16) 0 (n + 1) ≡ (n + 1) % 17
+    go (yes e) = hit _ _ _ (eq-eqb n 16 e) ∙ omega arith
+    go (no e) = miss _ _ _ (ne-eqb n 16 e) ∙ omega arith
 
 pub after-most : (n : ℕ) → n ≤ 16 → after n ≤ 16
-unfolding after
-after-most n h = go (eqb n 16) refl
-  where
-    go : (b : Bool) → eqb n 16 ≡ b → cond b 0 (n + 1) ≤ 16
-    go true e = omega arith
-    go false e = omega (arith, eqb-false n 16 e)
+after-most n h = omega (arith, after-is n h)
 
 module _ (test : ℕ → Bool) where
   -- no number left, this number, and the numbers after it
@@ -71,29 +66,14 @@ away : ℕ → ℕ → ℕ
 away n zero = n
 away n (suc k) = away (after n) k
 
-away-suc : (n k : ℕ) → away n (suc k) ≡ away (after n) k
+away-is : (k n : ℕ) → n ≤ 16 → away n k ≡ (n + k) % 17
 unfolding away
-away-suc n k = refl
-
-away-up : (k n : ℕ) → n + k ≤ 16 → away n k ≡ n + k
-unfolding away
-away-up zero n h = omega arith
-away-up (suc k) n h = ap (λ (m : ℕ). away m k) (after-next n (omega arith)) ∙ (away-up k (n + 1) (omega arith) ∙ omega arith)
-
-away-round : (j n m : ℕ) → n + j ≡ 16 → away n (suc (j + m)) ≡ away 0 m
-away-round zero n m h = cc (away-suc n (0 + m), after-last n (omega arith), zero-add m)
-away-round (suc j) n m h =
-    let q : after n ≡ n + 1 = after-next n (omega arith) in
-    let r : away (n + 1) (suc (j + m)) ≡ away 0 m = away-round j (n + 1) m (omega arith) in
-    cc (away-suc n (suc j + m), suc-add j m)
+away-is zero n h = omega arith
+away-is (suc k) n h = away-is k (after n) (after-most n h) ∙ omega (arith, after-is n h)
 
 -- every number is asked
 reached : (n m : ℕ) → n ≤ 16 → m ≤ 16 → (k : ℕ) × (k < 17) × (away n k ≡ m)
-reached n m hn hm = go (decLe n m)
-  where
-    go : Dec (n ≤ m) → (k : ℕ) × (k < 17) × (away n k ≡ m)
-    go (yes h) = (m - n, omega arith, away-up (m - n) n (omega arith) ∙ omega arith)
-    go (no h) = (suc (16 - n + m), omega arith, away-round (16 - n) n m (omega arith) ∙ (away-up m 0 (omega arith) ∙ omega arith))
+reached n m hn hm = ((m + 17 - n) % 17, omega arith, away-is ((m + 17 - n) % 17) n hn ∙ omega arith)
 
 module _ (test : ℕ → Bool) where
   -- where the answer is 17, no number asked passes
@@ -110,6 +90,34 @@ module _ (test : ℕ → Bool) where
 
   pub none-passes : (n : ℕ) → n ≤ 16 → ask test n 17 ≡ 17 → (m : ℕ) → m ≤ 16 → test m ≡ false
   none-passes n h e m hm = let r = reached n m h hm in rw (r .2) at (none-asked 17 n h e (r .0) (r .1))
+
+  -- where none passes all are passed by, and else the answer is so many steps after n
+  abbrev Steps : (n left a k : ℕ) → Type 0
+  Steps n left a k = ((a ≡ 17) × (k ≡ left)) ⊎ ((k < left) × (a ≡ away n k))
+
+  stepped-to : (left n : ℕ) → Steps n left (ask test n left) (passedBy test n left)
+  unfolding ask passedBy away
+  stepped-to zero n = inl (refl, refl)
+  stepped-to (suc left) n = go (test n) (stepped-to left (after n))
+    where
+      more : (a k : ℕ) → Steps (after n) left a k → Steps n (suc left) a (k + 1)
+      more a k (inl r) = inl (r .0, omega (arith, r .1))
+      more a k (inr r) = inr (omega (arith, r .0), r .1 ∙ ap (away n) (sym (add-one k)))
+
+      go : (b : Bool) → Steps (after n) left (ask test (after n) left) (passedBy test (after n) left)
+          → Steps n (suc left) (cond b n (ask test (after n) left)) (cond b 0 (passedBy test (after n) left + 1))
+      go true r = inr (omega arith, refl)
+      go false r = more _ _ r
+
+  -- the steps are how far the answer is from n
+  pub passed-distance : (n : ℕ) → n ≤ 16 → passedBy test n 17 ≡ distance n (ask test n 17)
+  passed-distance n h = go _ _ (stepped-to 17 n)
+    where
+      go : (a k : ℕ) → Steps n 17 a k → k ≡ distance n a
+      go a k (inl r) = r .1 ∙ sym (hit _ _ _ (eq-eqb a 17 (r .0)))
+      go a k (inr r) =
+          let e : a ≡ (n + k) % 17 = r .1 ∙ away-is k n h in
+          sym (miss _ _ _ (ne-eqb a 17 (λ z. omega arith)) ∙ omega (arith, r .0))
 
 -- two tests that agree on every number give the same answer
 pub ask-same : (f g : ℕ → Bool) → ((n : ℕ) → n ≤ 16 → f n ≡ g n) → (n left : ℕ) → n ≤ 16 → ask f n left ≡ ask g n left

@@ -13,7 +13,7 @@ use borrow.Author.Tests.{eq-eqb, ne-eqb, lt-ltb, le-ltb}
 use Rattle.table.specs.Sums.{nth}
 use Rattle.table.proofs.Tables.{miss, hit}
 use Rattle.regulator.specs.State.{yielding}
-use Rattle.regulator.specs.Turn.{granted, verdicts}
+use Rattle.regulator.specs.Turn.{granted, stepsOf, verdicts}
 use Rattle.regulator.specs.Grant.{onClaim, onStock, onNeither, domainGrant, grant, onward, decidedOf}
 use Rattle.regulator.specs.Close.{withoutCounts, withCounts, ended}
 use Rattle.regulator.specs.Refusals.{slotRefusal, yieldRefusal}
@@ -49,21 +49,22 @@ grant-stock s j w h = miss _ _ _ (le-ltb 0 (nth (s .claim) j) (omega arith))
 
 -- a decided slot, by what is granted
 module _ (s : State) (o : List ℕ) where
-  pub decided-none : decidedOf s o 17 ≡ onward (onNeither s (s .idle + 1) (s .best)) 17
-  decided-none = ap (λ (t : State). onward t 17) (grant-none s o)
+  pub decided-none : decidedOf s o 17 ≡ onward (onNeither s (s .idle + 1) (s .best)) 17 (stepsOf s o)
+  decided-none = ap (λ (t : State). onward t 17 (stepsOf s o)) (grant-none s o)
 
-  pub decided-best : decidedOf s o 0 ≡ onward (onNeither s (s .idle) (s .best + 1)) 0
-  decided-best = ap (λ (t : State). onward t 0) (grant-best s o)
+  pub decided-best : decidedOf s o 0 ≡ onward (onNeither s (s .idle) (s .best + 1)) 0 (stepsOf s o)
+  decided-best = ap (λ (t : State). onward t 0 (stepsOf s o)) (grant-best s o)
 
   module _ (j : ℕ) (h : j < 16) where
-    pub decided-claim : 0 < nth (s .claim) j → decidedOf s o (j + 1) ≡ onward (onClaim s j (eqb (nth o (j + 1)) 2)) (j + 1)
-    decided-claim c = ap (λ (t : State). onward t (j + 1)) (grant-domain s o j h ∙ grant-claim s j (eqb (nth o (j + 1)) 2) c)
+    pub decided-claim : 0 < nth (s .claim) j → decidedOf s o (j + 1) ≡ onward (onClaim s j (eqb (nth o (j + 1)) 2)) (j + 1) (stepsOf s o)
+    decided-claim c = ap (λ (t : State). onward t (j + 1) (stepsOf s o)) (grant-domain s o j h ∙ grant-claim s j (eqb (nth o (j + 1)) 2) c)
 
-    pub decided-stock : nth (s .claim) j ≡ 0 → decidedOf s o (j + 1) ≡ onward (onStock s j (eqb (nth o (j + 1)) 2)) (j + 1)
-    decided-stock c = ap (λ (t : State). onward t (j + 1)) (grant-domain s o j h ∙ grant-stock s j (eqb (nth o (j + 1)) 2) c)
+    pub decided-stock : nth (s .claim) j ≡ 0 → decidedOf s o (j + 1) ≡ onward (onStock s j (eqb (nth o (j + 1)) 2)) (j + 1) (stepsOf s o)
+    decided-stock c = ap (λ (t : State). onward t (j + 1) (stepsOf s o)) (grant-domain s o j h ∙ grant-stock s j (eqb (nth o (j + 1)) 2) c)
 
--- a grant leaves T and the closed periods
-pub grant-time : (s : State) (o : List ℕ) (n : ℕ) → (grant s o n .decided ≡ s .decided) × (grant s o n .closed ≡ s .closed)
+-- a grant leaves T, the closed periods and the sum of steps
+pub grant-time : (s : State) (o : List ℕ) (n : ℕ)
+    → (grant s o n .decided ≡ s .decided) × (grant s o n .closed ≡ s .closed) × (grant s o n .steps ≡ s .steps)
 unfolding grant domainGrant
 grant-time s o n = go (eqb n 17) (eqb n 0) (ltb 0 (nth (s .claim) (n - 1)))
   where
@@ -76,36 +77,37 @@ grant-time s o n = go (eqb n 17) (eqb n 0) (ltb 0 (nth (s .claim) (n - 1)))
         (cond b (onNeither s (s .idle) (s .best + 1))
         (cond c (onClaim s (n - 1) w) (onStock s (n - 1) w)))
 
-    go : (a b c : Bool) → (after-grant a b c .decided ≡ s .decided) × (after-grant a b c .closed ≡ s .closed)
-    go true b c = (refl, refl)
-    go false true c = (refl, refl)
-    go false false true = (refl, refl)
-    go false false false = (refl, refl)
+    go : (a b c : Bool)
+        → (after-grant a b c .decided ≡ s .decided) × (after-grant a b c .closed ≡ s .closed) × (after-grant a b c .steps ≡ s .steps)
+    go true b c = (refl, refl, refl)
+    go false true c = (refl, refl, refl)
+    go false false true = (refl, refl, refl)
+    go false false false = (refl, refl, refl)
 
 -- the end of a slot
-module _ (s : State) where
-  pub ended-open : s .decided ≢ s .plan .period → ended s ≡ withoutCounts 0 s
+module _ (s : State) (steps : ℕ) where
+  pub ended-open : s .decided ≢ s .plan .period → ended s steps ≡ withoutCounts 0 s steps
   unfolding ended
   ended-open h = miss _ _ _ (ne-eqb (s .decided) (s .plan .period) h)
 
-  pub ended-complete : s .decided ≡ s .plan .period → ended s ≡ withCounts s
+  pub ended-complete : s .decided ≡ s .plan .period → ended s steps ≡ withCounts s steps
   unfolding ended
   ended-complete h = hit _ _ _ (eq-eqb (s .decided) (s .plan .period) h)
 
-  pub ended-taken : ended s .refused ≡ 0
+  pub ended-taken : ended s steps .refused ≡ 0
   ended-taken = go (ℕ-discrete (s .decided) (s .plan .period))
     where
-      go : Dec (s .decided ≡ s .plan .period) → ended s .refused ≡ 0
+      go : Dec (s .decided ≡ s .plan .period) → ended s steps .refused ≡ 0
       go (yes q) = ap (λ (a : Answer). a .refused) (ended-complete q)
       go (no q) = ap (λ (a : Answer). a .refused) (ended-open q)
 
 -- a slot call that is refused, and one that is not
 module _ (s : State) (o : List ℕ) where
-  pub slot-refused : (room : ℕ) → slotRefusal s o room ≢ 0 → slotOf s o room ≡ withoutCounts (slotRefusal s o room) s
+  pub slot-refused : (room : ℕ) → slotRefusal s o room ≢ 0 → slotOf s o room ≡ withoutCounts (slotRefusal s o room) s 0
   unfolding slotOf
   slot-refused room h = miss _ _ _ (ne-eqb (slotRefusal s o room) 0 h)
 
-  pub slot-decided : (room : ℕ) → slotRefusal s o room ≡ 0 → slotOf s o room ≡ ended (decidedOf s o (granted s o))
+  pub slot-decided : (room : ℕ) → slotRefusal s o room ≡ 0 → slotOf s o room ≡ ended (decidedOf s o (granted s o)) (stepsOf s o)
   unfolding slotOf oneSlot
   slot-decided room h = hit _ _ _ (eq-eqb (slotRefusal s o room) 0 h)
 
@@ -113,7 +115,7 @@ module _ (s : State) (o : List ℕ) where
   slot-number room = go (ℕ-discrete (slotRefusal s o room) 0)
     where
       go : Dec (slotRefusal s o room ≡ 0) → slotOf s o room .refused ≡ slotRefusal s o room
-      go (yes q) = ap (λ (a : Answer). a .refused) (slot-decided room q) ∙ ended-taken _ ∙ sym q
+      go (yes q) = ap (λ (a : Answer). a .refused) (slot-decided room q) ∙ ended-taken _ _ ∙ sym q
       go (no q) = ap (λ (a : Answer). a .refused) (slot-refused room q)
 
   pub shown-refused : (b : List ℕ) → slotRefusal s o (length b) ≢ 0 → verdictsIn s o b ≡ b
@@ -123,6 +125,17 @@ module _ (s : State) (o : List ℕ) where
   pub shown-decided : (b : List ℕ) → slotRefusal s o (length b) ≡ 0 → verdictsIn s o b ≡ verdicts s o
   unfolding verdictsIn
   shown-decided b h = hit _ _ _ (eq-eqb (slotRefusal s o (length b)) 0 h)
+
+-- a decided slot tells its steps
+ended-steps : (s : State) (steps : ℕ) → ended s steps .steps ≡ steps
+ended-steps s steps = go (ℕ-discrete (s .decided) (s .plan .period))
+  where
+    go : Dec (s .decided ≡ s .plan .period) → ended s steps .steps ≡ steps
+    go (yes q) = ap (λ (a : Answer). a .steps) (ended-complete s steps q)
+    go (no q) = ap (λ (a : Answer). a .steps) (ended-open s steps q)
+
+pub steps-told : (s : State) (o : List ℕ) (room : ℕ) → slotRefusal s o room ≡ 0 → slotOf s o room .steps ≡ stepsOf s o
+steps-told s o room h = ap (λ (a : Answer). a .steps) (slot-decided s o room h) ∙ ended-steps _ _
 
 -- a yield that is refused, and one that is not
 module _ (s : State) (d k : ℕ) where

@@ -12,13 +12,13 @@ use lib.Seq.{getD-set-same, getD-set-other}
 use borrow.Author.Tests.{eqb-true, eqb-false, eq-eqb, ne-eqb, le-ltb}
 use Rattle.table.specs.Sums.{nth}
 use Rattle.table.specs.Ranges.{lowest}
-use Rattle.table.proofs.Tables.{miss, both}
+use Rattle.table.proofs.Tables.{miss, hit, both}
 use Rattle.table.proofs.Searches.{lowest-at, lowest-none}
 use Rattle.table.proofs.Filling.{values-length, values-at}
 use Rattle.regulator.specs.Verdict.{atCap, waits, waiting, blocked, ruling, bestRuling, domainRuling, rulingAt, rulingOf, passes}
-use Rattle.regulator.specs.Turn.{ask, granted, rulings, verdicts}
+use Rattle.regulator.specs.Turn.{ask, granted, stepsOf, distance, StepsAreDistance, rulings, verdicts}
 use Rattle.regulator.specs.declared.state.State.{State}
-use Rattle.regulator.proofs.Laws.Asking.{ask-passes, ask-most, ask-same, none-passes}
+use Rattle.regulator.proofs.Laws.Asking.{ask-passes, ask-most, passed-distance, ask-same, none-passes}
 
 -- what a ruling of 2 tells of the lines' tests, what waiting on claim is ruled, and that no ruling is 1
 ruling-passes : (n c q f d b : Bool) → ruling n c q f d b ≡ 2
@@ -48,6 +48,11 @@ ruling-not-one false false false true d b e = omega arith
 ruling-not-one false false false false true b e = omega arith
 ruling-not-one false false false false false true e = omega arith
 ruling-not-one false false false false false false e = omega arith
+
+-- the steps where number n is granted, or none at 17
+pub record Stepped (n k : ℕ) : Type 0 where
+  pub none : n ≡ 17 → k ≡ 17
+  pub some : n ≢ 17 → k ≤ 16
 
 module _ (s : State) (o : List ℕ) where
   -- the ruling of best effort, and of the domain at index j
@@ -150,6 +155,25 @@ module _ (s : State) (o : List ℕ) where
     unfolding granted
     granted-most = ask-most (passes s o) (s .turn) 17 h
 
+    -- the steps are the distance, and their bounds
+    pub steps-distance : stepsOf s o ≡ distance (s .turn) (granted s o)
+    unfolding granted stepsOf
+    steps-distance = passed-distance (passes s o) (s .turn) h
+
+    pub stepped : Stepped (granted s o) (stepsOf s o)
+    stepped =
+        record {
+          none = λ e. steps-distance ∙ hit _ _ _ (eq-eqb _ 17 e);
+          some = λ e. omega (arith, steps-distance ∙ miss _ _ _ (ne-eqb _ 17 e));
+        }
+
+    pub steps-most : stepsOf s o ≤ 17
+    steps-most = go (ℕ-discrete (granted s o) 17)
+      where
+        go : Dec (granted s o ≡ 17) → stepsOf s o ≤ 17
+        go (yes e) = omega (arith, stepped .none e)
+        go (no e) = omega (arith, stepped .some e)
+
     pub granted-to : Granted (granted s o)
     unfolding granted
     granted-to = go (ask-passes (passes s o) (s .turn) 17 h)
@@ -192,3 +216,6 @@ module _ (s : State) (o : List ℕ) where
           let m = granted-most h in
           lowest-at test 0 17 (granted s o) (omega arith) (omega arith) (eq-eqb _ 1 (verdict-granted (omega arith)))
           (λ i a b. verdict-one i (omega arith) (λ e. omega arith))
+
+pub steps-are-distance : StepsAreDistance
+steps-are-distance s o h = steps-distance s o h

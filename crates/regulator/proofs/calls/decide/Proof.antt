@@ -1,6 +1,6 @@
 -- `regulator::calls::decide` meets its contract.
 -- Assumes nothing.
-use mathlib.Core.Path.{sym, ap, subst, _∙_}
+use mathlib.Core.Path.{sym, ap, ap₂, subst, _∙_}
 use denote.Ref.{now}
 use Prim.Native.Nat.{ℕ, _≤_}
 use native.Mathlib.Omega.{arith}
@@ -11,7 +11,7 @@ use Rattle.regulator.specs.Calls.{oneSlot}
 use Rattle.regulator.specs.declared.state.State.{State}
 use Rattle.regulator.proofs.Laws.Adding.{Adds, adds}
 use Rattle.regulator.proofs.Laws.Refusing.{SlotTaken, slot-taken}
-use Rattle.regulator.proofs.Laws.Ruling.{Granted, granted-most, granted-to, stock-there}
+use Rattle.regulator.proofs.Laws.Ruling.{Granted, granted-most, steps-most, granted-to, stock-there}
 use Rattle.regulator.proofs.Laws.Deciding.{grant-time}
 use borrow.Author.Needs.{needs}
 use Rattle.regulator.proofs.calls.decide.Statement.{statement}
@@ -27,7 +27,7 @@ taken c = slot-taken (c .args .s) (now (c .args .offers)) (length (now (c .args 
 sound : (c : tie.Start) → Adds (c .args .s)
 sound c = adds (c .args .s) (taken c .adds)
 
-most : (c : tie.After-tell-verdicts) → c .tell-verdicts .result ≤ 17
+most : (c : tie.After-tell-verdicts) → c .tell-verdicts .result .number ≤ 17
 most c =
     let a = c .before .before .before .before in
     subst (λ (n : ℕ). n ≤ 17) (sym (c .tell-verdicts .ensures .0)) (granted-most (a .args .s) (now (a .args .offers)) (sound a .balanced .turn))
@@ -39,15 +39,24 @@ grant-number-requires c κs =
     let s = a .args .s in
     let o = now (a .args .offers) in
     let to = subst (Granted s o) (sym (t .tell-verdicts .ensures .0)) (granted-to s o (sound a .balanced .turn)) in
-    (most t, (taken a .offered .offers-long, (taken a .adds, stock-there s o (t .tell-verdicts .result) to)))
+    (most t, (taken a .offered .offers-long, (taken a .adds, stock-there s o (t .tell-verdicts .result .number) to)))
 
 go-on-requires : tie.Need-go-on-requires
 go-on-requires c κs =
     let t = c .before .before .before in
     let a = t .before .before .before .before in
-    let same = grant-time (a .args .s) (now (a .args .offers)) (t .tell-verdicts .result) .0 in
+    let s = a .args .s in
+    let o = now (a .args .offers) in
+    let b = sound a .balanced in
+    let same = grant-time s o (t .tell-verdicts .result .number) in
     let e = ap (λ (u : State). u .decided) (c .grant-number .ensures) in
-    (most t, omega (arith, same, e, sound a .below, sound a .balanced .plan .small))
+    let f = ap (λ (u : State). u .steps) (c .grant-number .ensures) in (
+      most t,
+      (
+        omega (arith, same .0, e, sound a .below, b .plan .small),
+        omega (arith, same .2, f, t .tell-verdicts .ensures .1 .0, steps-most s o (b .turn), b .most, b .spent, sound a .below, b .plan .small),
+      ),
+    )
 
 full : (c : tie.Start) → c .args .s .closed ≤ 4294967295
 full c = search needs
@@ -57,7 +66,7 @@ end-requires c κs =
     let g = c .before in
     let t = g .before .before .before in
     let a = t .before .before .before .before in
-    let same = grant-time (a .args .s) (now (a .args .offers)) (t .tell-verdicts .result) .1 in
+    let same = grant-time (a .args .s) (now (a .args .offers)) (t .tell-verdicts .result .number) .1 in
     let e = ap (λ (u : State). u .closed) (c .go-on .ensures) in
     let f = ap (λ (u : State). u .closed) (g .grant-number .ensures) in
     omega (arith, same, e, f, taken a .unfilled, full a)
@@ -73,12 +82,15 @@ returns c =
     let a = t .before .before .before .before in
     let s = a .args .s in
     let o = now (a .args .offers) in
-    let n = t .tell-verdicts .ensures .0 in (
+    let p = t .tell-verdicts .result in
+    let told = t .tell-verdicts .ensures in (
       c .end .ensures
-          ∙ ap ended (c .before .go-on .ensures
-          ∙ ap (λ (u : State). onward u (t .tell-verdicts .result)) (g .grant-number .ensures)
-          ∙ ap (λ (m : ℕ). onward (grant s o m) m) n),
-      t .tell-verdicts .ensures .1,
+          ∙ ap₂ ended
+          (c .before .go-on .ensures
+          ∙ ap (λ (u : State). onward u (p .number) (p .steps)) (g .grant-number .ensures)
+          ∙ ap₂ (λ (n k : ℕ). onward (grant s o n) n k) (told .0) (told .1 .0))
+          (told .1 .0),
+      told .1 .1,
     )
 
 pub decide-spec : {M : Type 1} → statement M

@@ -24,7 +24,7 @@ returns c =
     let e = c .before .before .check-slot .ensures in
     let told : slotRefusal (a .s) (now (a .offers)) (length (now (a .verdicts))) ≡ 0 → ⊥ = λ z. c .before .if1 .taken (e ∙ z) in (
       c .without-counts .ensures
-          ∙ ap (λ (n : ℕ). withoutCounts n (a .s)) e
+          ∙ ap (λ (n : ℕ). withoutCounts n (a .s) 0) e
           ∙ sym (slot-refused (a .s) (now (a .offers)) (length (now (a .verdicts))) told),
       sym (shown-refused (a .s) (now (a .offers)) (now (a .verdicts)) told),
     )

@@ -35,7 +35,7 @@ returns-2 c =
     let e : slotRefusal (a .s) (now (a .offers)) (length (now (a .verdicts))) ≡ 30 =
     slot-unsound (a .s) (now (a .offers)) (length (now (a .verdicts))) (sym (b .adds-up .ensures) ∙ c .before .if1 .left) in (
       c .without-counts .ensures
-          ∙ sym (ap (λ (n : ℕ). withoutCounts n (a .s)) e)
+          ∙ sym (ap (λ (n : ℕ). withoutCounts n (a .s) 0) e)
           ∙ sym (slot-refused (a .s) (now (a .offers)) (length (now (a .verdicts))) (λ z. omega (arith, e))),
       sym (shown-refused (a .s) (now (a .offers)) (now (a .verdicts)) (λ z. omega (arith, e))),
     )

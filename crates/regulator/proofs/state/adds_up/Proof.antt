@@ -1,4 +1,4 @@
--- `regulator::state::adds_up` meets its contract: what its callees tell, put into the five tests.
+-- `regulator::state::adds_up` meets its contract: what its callees tell, put into the six tests.
 -- Assumes nothing.
 use Rattle.regulator.specs.State.{addsUp}
 use borrow.Author.Needs.{needs}
@@ -23,18 +23,30 @@ total-requires-3 c κs = search needs
 sums-add-up-requires : tie.Need-sums-add-up-requires
 sums-add-up-requires c κs = search needs
 
-all-five-requires : tie.Need-all-five-requires
-all-five-requires c κs = search needs
+steps-add-up-requires : tie.Need-steps-add-up-requires
+steps-add-up-requires c κs = search needs
+
+all-six-requires : tie.Need-all-six-requires
+all-six-requires c κs = search needs
 
 returns : tie.Need-returns
 unfolding addsUp
 returns c =
-    let b = c .before .before .before .before .before in
+    let steps = c .before .before .before .before .before in
+    let b = steps .before in
     let d = b .before .before .before .before in
     let total = b .before .before .before .total .ensures .0 in
     let total2 = b .before .before .total2 .ensures .0 in
     let total3 = b .before .total3 .ensures .0 in
-    rw (d .before .before .before .before .check .ensures, d .domains-add-up .ensures, b .sums-add-up .ensures, total, total2, total3) at (c .all-five .ensures)
+    rw (
+      d .before .before .before .before .check .ensures,
+      d .domains-add-up .ensures,
+      b .sums-add-up .ensures,
+      total,
+      total2,
+      total3,
+      steps .steps-add-up .ensures,
+    ) at (c .all-six .ensures)
 
 pub adds-up-spec : {M : Type 1} → statement M
 adds-up-spec =
@@ -46,5 +58,6 @@ adds-up-spec =
     total-requires-2
     total-requires-3
     sums-add-up-requires
-    all-five-requires
+    steps-add-up-requires
+    all-six-requires
     returns)
