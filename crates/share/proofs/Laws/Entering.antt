@@ -1,6 +1,6 @@
 -- One call: what the ledger enters is what the returned state holds, and what is needed for the next call is kept.
 -- Assumes nothing.
-use mathlib.Core.Path.{_≡_, refl, sym, ap, subst, _∙_}
+use mathlib.Core.Path.{_≡_, refl, sym, ap, ap₂, subst, _∙_}
 use mathlib.Core.Logic.{_≢_}
 use mathlib.Core.Bool.{Bool, cond}
 use mathlib.Core.List.{List}
@@ -17,7 +17,7 @@ use Rattle.plan.specs.Value.{Sized, reserved, planRefusal}
 use Rattle.plan.specs.declared.value.Plan.{Plan}
 use Rattle.plan.proofs.Laws.Values.{accepted}
 use Rattle.regulator.specs.State.{begun, yielding}
-use Rattle.regulator.specs.Turn.{granted, verdicts}
+use Rattle.regulator.specs.Turn.{granted, stepsOf, verdicts}
 use Rattle.regulator.specs.Grant.{decidedOf}
 use Rattle.regulator.specs.Close.{countsOf, nextPeriod, ended}
 use Rattle.regulator.specs.Refusals.{slotRefusal, yieldRefusal}
@@ -27,7 +27,7 @@ use Rattle.regulator.specs.declared.close.Answer.{Answer}
 use Rattle.regulator.specs.declared.calls.Yielding.{Yielding}
 use Rattle.regulator.proofs.Laws.Ruling.{Granted, to-none, to-best, on-claim, on-stock, granted-to, one-granted}
 use Rattle.regulator.proofs.Laws.Refusing.{yield-taken}
-use Rattle.regulator.proofs.Laws.Deciding.{decided-none, decided-best, decided-claim, decided-stock, ended-open, ended-complete, slot-refused, slot-decided, slot-number, shown-refused, shown-decided, yield-number, yield-refused, yield-given}
+use Rattle.regulator.proofs.Laws.Deciding.{decided-none, decided-best, decided-claim, decided-stock, ended-open, ended-complete, slot-refused, slot-decided, slot-number, steps-told, shown-refused, shown-decided, yield-number, yield-refused, yield-given}
 use Rattle.regulator.proofs.Laws.Keeping.{Kept, Next, slot-next, yielding-keeps, Start, next-start, begun-keeps}
 use Rattle.share.specs.Call.{Call, slot, yield}
 use Rattle.share.specs.Ledger.{refusedCall, decidedSlot, Page, Slot, Period, pass, passing, slotEntry, enter}
@@ -36,13 +36,13 @@ use Rattle.share.specs.Share.{PeriodShare, RefusedChangesNothing}
 use Rattle.share.proofs.Laws.Reserving.{Past, nothing, pageOf, periodOf, slotsWith, Safe, grant-safe, yield-safe, Whole, period-share}
 
 -- the entry of a slot is what the grant leaves
-entry-domain : (p : Page) (o : List ℕ) (j : ℕ) → j < 16 → slotEntry p o (j + 1) ≡ pass p j (ltb 0 (nth (p .claim) j)) (eqb (nth o (j + 1)) 2)
+entry-domain : (p : Page) (o : List ℕ) (j k : ℕ) → j < 16 → slotEntry p o (j + 1) k ≡ pass p j (ltb 0 (nth (p .claim) j)) (eqb (nth o (j + 1)) 2) k
 unfolding slotEntry
-entry-domain p o j h =
+entry-domain p o j k h =
     let q : j + 1 - 1 ≡ j = omega arith in
     miss _ _ _ (ne-eqb (j + 1) 17 (λ z. omega arith))
     ∙ miss _ _ _ (ne-eqb (j + 1) 0 (λ z. omega arith))
-    ∙ ap (λ (i : ℕ). pass p i (ltb 0 (nth (p .claim) i)) (eqb (nth o (j + 1)) 2)) q
+    ∙ ap (λ (i : ℕ). pass p i (ltb 0 (nth (p .claim) i)) (eqb (nth o (j + 1)) 2) k) q
 
 -- the entry is what the decided slot leaves; the ledger holds a slot more
 pub record Entered (p : Page) (t : State) (ms : List Slot) : Type 0 where
@@ -55,21 +55,21 @@ module _ (s : State) (m : Past) (o : List ℕ) where
   abbrev same : (p : Page) (t : State) → p ≡ pageOf t m → Entered p t (slotsWith s m o)
   same p t e = record { past = record { slots = slotsWith s m o }; slots = refl; page = e }
 
-  entry-granted : (n : ℕ) → Granted s o n → Entered (slotEntry (pageOf s m) o n) (decidedOf s o n) (slotsWith s m o)
+  entry-granted : (n : ℕ) → Granted s o n → Entered (slotEntry (pageOf s m) o n (stepsOf s o)) (decidedOf s o n) (slotsWith s m o)
   unfolding slotEntry
   entry-granted n (to-none p) = same _ _ (sym (ap (λ (t : State). pageOf t m) (decided-none s o)))
   entry-granted n (to-best p) = same _ _ (sym (ap (λ (t : State). pageOf t m) (decided-best s o)))
   entry-granted n (on-claim j h c f) =
       let w = eqb (nth o (j + 1)) 2 in
       same _ _
-      (entry-domain (pageOf s m) o j h
-      ∙ ap (λ (b : Bool). pass (pageOf s m) j b w) (lt-ltb 0 (nth (s .claim) j) c)
+      (entry-domain (pageOf s m) o j (stepsOf s o) h
+      ∙ ap (λ (b : Bool). pass (pageOf s m) j b w (stepsOf s o)) (lt-ltb 0 (nth (s .claim) j) c)
       ∙ sym (ap (λ (t : State). pageOf t m) (decided-claim s o j h c)))
   entry-granted n (on-stock j h c r z b f) =
       let w = eqb (nth o (j + 1)) 2 in
       same _ _
-      (entry-domain (pageOf s m) o j h
-      ∙ ap (λ (b : Bool). pass (pageOf s m) j b w) (le-ltb 0 (nth (s .claim) j) (omega arith))
+      (entry-domain (pageOf s m) o j (stepsOf s o) h
+      ∙ ap (λ (b : Bool). pass (pageOf s m) j b w (stepsOf s o)) (le-ltb 0 (nth (s .claim) j) (omega arith))
       ∙ sym (ap (λ (t : State). pageOf t m) (decided-stock s o j h c)))
 
 -- what holds when a call comes
@@ -113,7 +113,7 @@ fed-refused : (m : Made) → m .refused ≢ 0 → fed m ≡ refusedCall (m .call
 unfolding fed
 fed-refused m h = miss _ _ _ (ne-eqb (m .refused) 0 h)
 
-fed-taken : (m : Made) → m .refused ≡ 0 → fed m ≡ taken (m .call) (m .shown)
+fed-taken : (m : Made) → m .refused ≡ 0 → fed m ≡ taken (m .call) (m .shown) (m .steps)
 unfolding fed
 fed-taken m h = hit _ _ _ (eq-eqb (m .refused) 0 h)
 
@@ -159,7 +159,7 @@ module _ (s : State) (m : Past) (r : Ready s m) where
     after-grant : Next s next
     after-grant = slot-next s kept o
 
-    entry : Entered (slotEntry (pageOf s m) o (granted s o)) next (slotsWith s m o)
+    entry : Entered (slotEntry (pageOf s m) o (granted s o) (stepsOf s o)) next (slotsWith s m o)
     entry = entry-granted s m o (granted s o) to
 
     whole-after : Whole next (entry .past)
@@ -172,28 +172,30 @@ module _ (s : State) (m : Past) (r : Ready s m) where
     slot-entered : enter (periodOf s m) (fed (made s (slot o b))) ≡ periodOf next (entry .past)
     unfolding made taken enter
     slot-entered =
-        ap (enter (periodOf s m)) (fed-taken (made s (slot o b)) (slot-number s o (length b) ∙ e) ∙ ap (decidedSlot o b) (shown-decided s o b e))
+        ap (enter (periodOf s m))
+        (fed-taken (made s (slot o b)) (slot-number s o (length b) ∙ e)
+        ∙ ap₂ (decidedSlot o b) (shown-decided s o b e) (steps-told s o (length b) e))
         ∙ (λ i. record { plan = sym (after-grant .plan) i; page = entered i; slots = sym (entry .slots) i })
       where
-        entered : slotEntry (pageOf s m) o (passing (verdicts s o)) ≡ pageOf next (entry .past)
-        entered = ap (slotEntry (pageOf s m) o) (one-granted s o (kept .balanced .turn)) ∙ entry .page
+        entered : slotEntry (pageOf s m) o (passing (verdicts s o)) (stepsOf s o) ≡ pageOf next (entry .past)
+        entered = ap (λ (n : ℕ). slotEntry (pageOf s m) o n (stepsOf s o)) (one-granted s o (kept .balanced .turn)) ∙ entry .page
 
     step-slot : Step s m (made s (slot o b))
     unfolding made
     step-slot = go (ℕ-discrete (next .decided) (next .plan .period))
       where
-        a : slotOf s o (length b) ≡ ended next
+        a : slotOf s o (length b) ≡ ended next (stepsOf s o)
         a = slot-decided s o (length b) e
 
         go : Dec (next .decided ≡ next .plan .period) → Step s m (made s (slot o b))
         go (yes q) =
-            let x = a ∙ ended-complete next q in
+            let x = a ∙ ended-complete next (stepsOf s o) q in
             completes next (entry .past) slot-entered (ap (λ (a : Answer). a .state) x)
             (ap (λ (a : Answer). cond (a .complete) (some (a .counts)) none) x) q
             (period-share next (entry .past) whole-after)
             (next-ready next (after-grant .kept))
         go (no q) =
-            let x = a ∙ ended-open next q in
+            let x = a ∙ ended-open next (stepsOf s o) q in
             goes-on next (entry .past) slot-entered (ap (λ (a : Answer). a .state) x)
             (ap (λ (a : Answer). cond (a .complete) (some (a .counts)) none) x)
             (record {
