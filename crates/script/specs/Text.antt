@@ -49,9 +49,15 @@ domainsText p c (suc j) =
     ++ cond (getD (p .planned) j false)
     (domainText (j + 1) (nth (c .reserved) j) (nth (c .reclaimed) j) (nth (c .yielded) j) (nth (c .writebacks) j)) []
 
--- "with one space between fields, a line for each closed period with its number from 1, idle, best effort and, for each planned domain"
+-- document 02, Point 9: "The replay line gains ` s` and the sum at its end"; byte 10 is behind it
+unfoldable pub stepsText : ℕ → List ℕ
+stepsText steps = bytes " s" ++ (decimal steps ++ bytes "\n")
+
+-- "with one space between fields, a line for each closed period with its number from 1, idle, best effort and, for each planned domain";
+-- then the sum of its steps
 unfoldable pub periodText : Plan → ℕ → Counts → List ℕ
-periodText p number c = decimal number ++ (field (code " ") (c .idle) ++ (field (code " ") (c .best) ++ (domainsText p c 16 ++ bytes "\n")))
+periodText p number c =
+    decimal number ++ (field (code " ") (c .idle) ++ (field (code " ") (c .best) ++ (domainsText p c 16 ++ stepsText (c .steps))))
 
 -- "at the end `open` and T"
 unfoldable pub openText : ℕ → List ℕ

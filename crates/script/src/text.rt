@@ -2,7 +2,7 @@
 ghost use mathlib.Core.Path.{_≡_};
 ghost use mathlib.Core.Bool.{cond};
 ghost use mathlib.Core.List.{[]};
-ghost use Rattle.script.specs.Text.{header, domainText, domainsText, periodText, openText, refusedText, planRefusedText, lineRefusedText};
+ghost use Rattle.script.specs.Text.{header, domainText, domainsText, stepsText, periodText, openText, refusedText, planRefusedText, lineRefusedText};
 ghost use Rattle.script.specs.Output.{output, put};
 use super::output::put_byte;
 use super::output::put_bytes;
@@ -77,6 +77,15 @@ fn put_domains(out: &mut [u8], at: usize, p: Plan, c: Counts) -> usize
     n
 }
 
+// The sum of steps, which ends the line of a period.
+fn put_steps(out: &mut [u8], at: usize, steps: u32) -> usize
+    ensures { λ r. ⌜ output (now (out .exit)) r ≡ put (output (now (out .entry)) at) (stepsText steps) ⌝ }
+{
+    let a = put_bytes(out, at, b" s");
+    let b = put_number(out, a, steps as u64);
+    put_byte(out, b, b'\n')
+}
+
 pub(crate) fn put_period(out: &mut [u8], at: usize, p: Plan, number: u32, c: Counts) -> usize
     ensures { λ r. ⌜ output (now (out .exit)) r ≡ put (output (now (out .entry)) at) (periodText p number c) ⌝ }
 {
@@ -84,7 +93,7 @@ pub(crate) fn put_period(out: &mut [u8], at: usize, p: Plan, number: u32, c: Cou
     let b = put_field(out, a, b' ', c.idle as u64);
     let d = put_field(out, b, b' ', c.best as u64);
     let e = put_domains(out, d, p, c);
-    put_byte(out, e, b'\n')
+    put_steps(out, e, c.steps)
 }
 
 pub(crate) fn put_open(out: &mut [u8], at: usize, decided: u16) -> usize

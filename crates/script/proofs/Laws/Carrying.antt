@@ -12,8 +12,8 @@ use Rattle.table.specs.Sums.{sum}
 use Rattle.table.proofs.Elements.{sum-zeros, raised-sum}
 use Rattle.table.proofs.Tables.{miss, hit}
 use Rattle.regulator.specs.State.{Shaped, addsUp}
-use Rattle.regulator.specs.Turn.{granted}
-use Rattle.regulator.specs.Grant.{grant, onward}
+use Rattle.regulator.specs.Turn.{granted, stepsOf}
+use Rattle.regulator.specs.Grant.{decidedOf}
 use Rattle.regulator.specs.Close.{ended, countsOf}
 use Rattle.regulator.specs.Refusals.{slotRefusal, yieldRefusal}
 use Rattle.regulator.specs.Calls.{slotOf, yieldOf}
@@ -23,9 +23,8 @@ use Rattle.regulator.specs.declared.calls.Yielding.{Yielding}
 use Rattle.plan.specs.declared.value.Plan.{Plan}
 use Rattle.regulator.proofs.Laws.Adding.{Adds, adds, small, yielded-fit}
 use Rattle.regulator.proofs.Laws.Refusing.{slot-taken, yield-taken}
-use Rattle.regulator.proofs.Laws.Ruling.{granted-to}
 use Rattle.regulator.proofs.Laws.Deciding.{ended-open, ended-complete, slot-refused, slot-decided, slot-number, yield-number, yield-given}
-use Rattle.regulator.proofs.Laws.Keeping.{Next, grant-keeps, slot-keeps, yield-keeps}
+use Rattle.regulator.proofs.Laws.Keeping.{Next, slot-next, slot-keeps, yield-keeps}
 use Rattle.script.specs.Line.{Meaning, slotLine, yieldLine, badLine, slotMeaning, isSlot, offersOf, valueOf, before, behind, yieldMeaning, isYield, begins, meaningOf}
 use Rattle.script.specs.Replay.{carriedOut}
 use Rattle.script.specs.Feeding.{linesBefore, lineRoom}
@@ -66,27 +65,25 @@ pub record Taken (s t : State) : Type 0 where
 module _ (s : State) (shape : Shaped s) (sound : addsUp s ≡ true) where
   -- the state after a decided slot, before a period's end
   decided : List ℕ → State
-  decided o = onward (grant s o (granted s o)) (granted s o)
+  decided o = decidedOf s o (granted s o)
 
   decided-next : (o : List ℕ) → Next s (decided o)
   unfolding decided
-  decided-next o =
-      let b = adds s sound .balanced in
-      grant-keeps s (record { shape = shape; balanced = b }) o (granted s o) (granted-to s o (b .turn))
+  decided-next o = slot-next s (record { shape = shape; balanced = adds s sound .balanced }) o
 
-  ended-lines : (t : State) → Next s t → linesBefore s + 1 ≤ linesBefore (ended t .state)
-  ended-lines t n = go (ℕ-discrete (t .decided) (t .plan .period))
+  ended-lines : (t : State) (k : ℕ) → Next s t → linesBefore s + 1 ≤ linesBefore (ended t k .state)
+  ended-lines t k n = go (ℕ-discrete (t .decided) (t .plan .period))
     where
       a : Adds s
       a = adds s sound
 
-      go : Dec (t .decided ≡ t .plan .period) → linesBefore s + 1 ≤ linesBefore (ended t .state)
+      go : Dec (t .decided ≡ t .plan .period) → linesBefore s + 1 ≤ linesBefore (ended t k .state)
       go (yes q) =
-          let e : linesBefore (ended t .state) ≡ 8192 * (t .closed + 1) + 0 + 0 =
-          ap (λ (x : Answer). linesBefore (x .state)) (ended-complete t q) ∙ ap (λ (k : ℕ). 8192 * (t .closed + 1) + 0 + k) (sum-zeros 16) in
+          let e : linesBefore (ended t k .state) ≡ 8192 * (t .closed + 1) + 0 + 0 =
+          ap (λ (x : Answer). linesBefore (x .state)) (ended-complete t k q) ∙ ap (λ (y : ℕ). 8192 * (t .closed + 1) + 0 + y) (sum-zeros 16) in
           omega (arith, e, n .closed, n .decided, q, ap (λ (p : Plan). p .period) (n .plan), a .balanced .plan .small, yielded-fit s (a .balanced) shape)
       go (no q) =
-          let e : linesBefore (ended t .state) ≡ linesBefore t = ap (λ (x : Answer). linesBefore (x .state)) (ended-open t q) in
+          let e : linesBefore (ended t k .state) ≡ linesBefore t = ap (λ (x : Answer). linesBefore (x .state)) (ended-open t k q) in
           omega (arith, e, n .closed, n .decided, ap sum (n .yielded))
 
   carried-taken : (m : Meaning) → badNumber m ≡ 41 → carriedOut s m .refused ≡ 0 → Taken s (carriedOut s m .state)
@@ -95,7 +92,7 @@ module _ (s : State) (shape : Shaped s) (sound : addsUp s ≡ true) where
       let q : slotRefusal s o 17 ≡ 0 = sym (slot-number s o 17) ∙ e in
       record {
         adds = slot-keeps s shape sound o 17;
-        lines = rw (slot-decided s o 17 q) (ended-lines (decided o) (decided-next o));
+        lines = rw (slot-decided s o 17 q) (ended-lines (decided o) (stepsOf s o) (decided-next o));
       }
   carried-taken (yieldLine d k) b e =
       let q : yieldRefusal s d k ≡ 0 = sym (yield-number s d k) ∙ e in
@@ -166,21 +163,21 @@ module _ (s : State) (shape : Shaped s) (sound : addsUp s ≡ true) (few : s .cl
 
   slot-short : (o : List ℕ) → slotRefusal s o 17 ≡ 0 → length (carriedOut s (slotLine o) .prints) ≤ lineRoom
   unfolding carriedOut decided
-  slot-short o q = rw (slot-decided s o 17 q) (go (decided s shape sound o) (decided-next s shape sound o))
+  slot-short o q = rw (slot-decided s o 17 q) (go (decided s shape sound o) (stepsOf s o) (decided-next s shape sound o))
     where
       full : s .closed ≢ 4294967295
       full = slot-taken s o 17 q .unfilled
 
-      go : (t : State) → Next s t → length (cond (ended t .complete) (periodText (s .plan) (ended t .state .closed) (ended t .counts)) []) ≤ lineRoom
-      go t n = by (ℕ-discrete (t .decided) (t .plan .period))
+      go : (t : State) (k : ℕ) → Next s t → length (cond (ended t k .complete) (periodText (s .plan) (ended t k .state .closed) (ended t k .counts)) []) ≤ lineRoom
+      go t k n = by (ℕ-discrete (t .decided) (t .plan .period))
         where
           p : Plan
           p = s .plan
 
-          by : Dec (t .decided ≡ t .plan .period) → length (cond (ended t .complete) (periodText p (ended t .state .closed) (ended t .counts)) []) ≤ lineRoom
-          by (yes e) = rw (ended-complete t e)
-              (period-long p (t .closed + 1) (countsOf t) (omega (arith, n .closed, full)) (omega arith) (omega arith) (counts-fit t n))
-          by (no e) = rw (ended-open t e) (omega arith)
+          by : Dec (t .decided ≡ t .plan .period) → length (cond (ended t k .complete) (periodText p (ended t k .state .closed) (ended t k .counts)) []) ≤ lineRoom
+          by (yes e) = rw (ended-complete t k e)
+              (period-long p (t .closed + 1) (countsOf t) (omega (arith, n .closed, full)) (omega arith) (omega arith) (omega arith) (counts-fit t n))
+          by (no e) = rw (ended-open t k e) (omega arith)
 
   pub prints-short : (m : Meaning) → length (carriedOut s m .prints) ≤ lineRoom
   unfolding carriedOut

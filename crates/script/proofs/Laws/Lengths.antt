@@ -8,7 +8,7 @@ use lib.ListN.{length, getD, length-append}
 use Rattle.table.specs.Sums.{nth}
 use Rattle.plan.specs.declared.value.Plan.{Plan}
 use Rattle.regulator.specs.declared.close.Counts.{Counts}
-use Rattle.script.specs.Text.{header, domainText, domainsText, periodText, refusedText, planRefusedText, lineRefusedText}
+use Rattle.script.specs.Text.{header, domainText, domainsText, stepsText, periodText, refusedText, planRefusedText, lineRefusedText}
 use Rattle.script.proofs.Laws.Decimals.{either-long, decimal-long, long8, long16, long32, long64}
 
 -- the counts of domain j + 1 have 16 bits
@@ -35,11 +35,19 @@ domains-long p c (suc j) h fit =
     let here = either-long (getD (p .planned) j false) text [] 27 short (omega arith) in
     simp length-append (omega (arith, here, domains-long p c j (omega arith) fit))
 
-pub period-long : (p : Plan) (number : ℕ) (c : Counts) → number < 4294967296 → c .idle < 65536 → c .best < 65536
+pub period-long : (p : Plan) (number : ℕ) (c : Counts) → number < 4294967296 → c .idle < 65536 → c .best < 65536 → c .steps < 4294967296
     → ((j : ℕ) → j < 16 → CountsFit c j) → length (periodText p number c) ≤ 512
-unfolding periodText
-period-long p number c h idle best fit =
-    simp length-append (omega (arith, long32 number h, long16 (c .idle) idle, long16 (c .best) best, domains-long p c 16 (omega arith) fit))
+unfolding periodText stepsText
+period-long p number c h idle best steps fit =
+    simp length-append
+    (omega (
+      arith,
+      long32 number h,
+      long16 (c .idle) idle,
+      long16 (c .best) best,
+      domains-long p c 16 (omega arith) fit,
+      long32 (c .steps) steps,
+    ))
 
 pub plan-refused-long : (N K : ℕ) → N < 256 → K < 65536 → length (planRefusedText N K) ≤ 512
 unfolding refusedText

@@ -1,9 +1,9 @@
 -- `script::text::put_period` meets its contract.
 -- Assumes nothing.
-use mathlib.Core.Path.{sym, _∙_}
+use mathlib.Core.Path.{_∙_}
 use Rattle.script.specs.Line.{before}
 use Rattle.script.specs.Text.{periodText}
-use Rattle.script.proofs.Laws.Putting.{put-one, put-next}
+use Rattle.script.proofs.Laws.Putting.{put-next}
 use borrow.Author.Needs.{needs}
 use Rattle.script.proofs.text.put_period.Statement.{statement}
 use Rattle.script.proofs.text.put_period.Tie as tie
@@ -26,8 +26,8 @@ put-field-requires-2 c κs = search needs
 put-domains-requires : tie.Need-put-domains-requires
 put-domains-requires c κs = search needs
 
-put-byte-requires : tie.Need-put-byte-requires
-put-byte-requires c κs = search needs
+put-steps-requires : tie.Need-put-steps-requires
+put-steps-requires c κs = search needs
 
 same-length : tie.Need-same-length
 same-length c = search needs
@@ -40,7 +40,7 @@ returns c =
     let u = v .before .before .before .before in
     let t = u .before .before .before .before .before in
     let s = t .before .before .before .before .before in
-    w .put-byte .ensures ∙ sym (put-one _ _)
+    w .put-steps .ensures
     ∙ put-next _ _ _ _ (v .put-domains .ensures)
     ∙ put-next _ _ _ _ (u .put-field2 .ensures)
     ∙ put-next _ _ _ _ (t .put-field .ensures)
@@ -56,6 +56,6 @@ put-period-spec =
     cast-put-field-2
     put-field-requires-2
     put-domains-requires
-    put-byte-requires
+    put-steps-requires
     same-length
     returns)
