@@ -1,7 +1,7 @@
 -- A case: an input and its outcome, by the definitions that the calls promise to answer by.
 -- Assumes nothing.
 use Prim.Native.Nat.{ℕ}
-use mathlib.Core.List.{List, map}
+use mathlib.Core.List.{List, [], _∷_, map}
 use mathlib.Core.Option.{Option}
 use lib.ListN.{length}
 use lib.IntN.{ℤ}
@@ -14,30 +14,34 @@ use Rattle.plan.specs.declared.reading.Reading.{Reading}
 use Rattle.plan.specs.declared.writing.Writing.{Writing}
 use Rattle.regulator.specs.Verdict.{loose}
 use Rattle.regulator.specs.Calls.{openPlan}
+use Rattle.regulator.specs.declared.state.State.{State}
 use Rattle.regulator.specs.declared.close.Counts.{Counts}
 use Rattle.script.specs.Line.{Meaning, meaningOf, offersIn}
 use Rattle.script.specs.Replay.{replayText}
 use Rattle.share.specs.Call.{Call}
-use Rattle.share.specs.Run.{Made, run}
+use Rattle.share.specs.Run.{Made, made, run}
 
 -- An input: a plan file that is read; a plan file whose sums are told; a plan value that is written to a lent buffer; a plan file whose
--- plan is opened, and calls from there on; a script line that is read, with a lent buffer; or a plan file and a script of the replay.
+-- plan is opened, and calls from there on; a call on a state that is given; a script line that is read, with a lent buffer; or a plan
+-- file and a script of the replay.
 pub data Input : Type 0 where
   file : (bytes : List ℕ) → Input
   summed : (bytes : List ℕ) → Input
   value : Plan → (buffer : List ℕ) → Input
   calls : (bytes : List ℕ) → List Call → Input
+  given : State → Call → Input
   line : (bytes buffer : List ℕ) → Input
   replayed : (bytes script : List ℕ) → Input
 
 -- What is shown of a call: 0 or the number of a refusal, what the lent buffer holds on return, the idle slots and loose of the state
--- returned (loose before the next slot, that is), and the counts told.
+-- returned (loose before the next slot, that is), the counts told, and the steps.
 pub record Shown : Type 0 where
   pub refused : ℕ
   pub verdicts : List ℕ
   pub idle : ℕ
   pub loose : ℤ
   pub counts : Option Counts
+  pub steps : ℕ
 
 -- An outcome: what reading answers; the sums told; what writing answers, and the buffer; 0 or the number of a refusal of opening, and
 -- what is shown of each call; what a line means, and the buffer; or all that is printed.
@@ -50,7 +54,8 @@ pub data Outcome : Type 0 where
   prints : List ℕ → Outcome
 
 abbrev shownOf : Made → Shown
-shownOf m = record { refused = m .refused; verdicts = m .shown; idle = m .state .idle; loose = loose (m .state); counts = m .counts }
+shownOf m =
+    record { refused = m .refused; verdicts = m .shown; idle = m .state .idle; loose = loose (m .state); counts = m .counts; steps = m .steps }
 
 -- what the definitions give
 unfoldable pub outcomeOf : Input → Outcome
@@ -60,6 +65,7 @@ outcomeOf (value p buffer) = writing (writePlan p (length buffer)) (written p bu
 outcomeOf (calls bytes cs) =
     let o = openPlan (readPlan bytes .plan) in
     answers (o .refused) (map (λ (m : Made). shownOf m) (run (o .state) cs))
+outcomeOf (given s c) = answers 0 (shownOf (made s c) ∷ [])
 outcomeOf (line bytes buffer) = meaning (meaningOf bytes) (offersIn bytes buffer)
 outcomeOf (replayed bytes script) = prints (replayText bytes script)
 

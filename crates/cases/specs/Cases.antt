@@ -12,11 +12,12 @@ use Rattle.table.specs.Ranges.{valuesBelow}
 use Rattle.plan.specs.Reading.{refusedReading, acceptedReading}
 use Rattle.plan.specs.Writing.{recordsFrom, refusedWriting}
 use Rattle.plan.specs.declared.value.Plan.{Plan}
+use Rattle.regulator.specs.declared.state.State.{State}
 use Rattle.regulator.specs.declared.close.Counts.{Counts}
 use Rattle.script.specs.Line.{slotLine, yieldLine, badLine}
 use Rattle.script.specs.Text.{bytes}
 use Rattle.share.specs.Call.{Call, slot, yield}
-use Rattle.cases.specs.Case.{file, summed, value, calls, line, replayed, Shown, Outcome, reading, sums, writing, answers, meaning, prints, outcomeOf, Case}
+use Rattle.cases.specs.Case.{file, summed, value, calls, given, line, replayed, Shown, Outcome, reading, sums, writing, answers, meaning, prints, outcomeOf, Case}
 
 -- the bytes of record 0 and of a domain record, "each record filled with zeros"; `byte3` is 0 in a good one
 abbrev head : ℕ → ℕ → List ℕ
@@ -95,25 +96,26 @@ nines = replicate 17 9
 abbrev pub offer : ℕ → ℕ → ℕ → Call
 offer a b c = slot (three a b c) nines
 
--- a slot: the verdicts of 0, 1 and 2, then idle slots and loose
-abbrev told : ℕ → ℕ → ℕ → ℕ → ℤ → Shown
-told a b c idle loose = record { refused = 0; verdicts = three a b c; idle = idle; loose = loose; counts = none }
+-- a slot: the verdicts of 0, 1 and 2, then idle slots, loose and the steps
+abbrev told : ℕ → ℕ → ℕ → ℕ → ℤ → ℕ → Shown
+told a b c idle loose steps = record { refused = 0; verdicts = three a b c; idle = idle; loose = loose; counts = none; steps = steps }
 
--- a slot that completes a period of plan A: the verdicts, and the counts; loose of the next period starts at 4 − 3
-abbrev completes : ℕ → ℕ → ℕ → Counts → Shown
-completes a b c counts = record { refused = 0; verdicts = three a b c; idle = 0; loose = pos 1; counts = some counts }
+-- a slot that completes a period of plan A: the verdicts, the counts and the steps; loose of the next period starts at 4 − 3
+abbrev completes : ℕ → ℕ → ℕ → Counts → ℕ → Shown
+completes a b c counts steps = record { refused = 0; verdicts = three a b c; idle = 0; loose = pos 1; counts = some counts; steps = steps }
 
 -- a call on the fresh plan A that is refused, and what its lent buffer holds; loose stays 4 − 3
 abbrev refusedCall : ℕ → List ℕ → Shown
-refusedCall n buffer = record { refused = n; verdicts = buffer; idle = 0; loose = pos 1; counts = none }
+refusedCall n buffer = record { refused = n; verdicts = buffer; idle = 0; loose = pos 1; counts = none; steps = 0 }
 
 -- a yield before any idle slot: 0 or a refusal, and loose
 abbrev yields : ℕ → ℤ → Shown
-yields n loose = record { refused = n; verdicts = []; idle = 0; loose = loose; counts = none }
+yields n loose = record { refused = n; verdicts = []; idle = 0; loose = loose; counts = none; steps = 0 }
 
--- counts without idle slots and writebacks: best effort, then reserved, reclaimed and yielded of domain 1; domain 2 has `2:1+0-0w0`
-abbrev countsWith : (best reserved reclaimed yielded : ℕ) → Counts
-countsWith best reserved reclaimed yielded =
+-- counts without idle slots and writebacks: best effort, then reserved, reclaimed and yielded of domain 1, and the sum of steps; domain 2
+-- has `2:1+0-0w0`
+abbrev countsWith : (best reserved reclaimed yielded steps : ℕ) → Counts
+countsWith best reserved reclaimed yielded steps =
     record {
       idle = 0;
       best = best;
@@ -121,6 +123,7 @@ countsWith best reserved reclaimed yielded =
       reclaimed = reclaimed ∷ replicate 15 0;
       yielded = yielded ∷ replicate 15 0;
       writebacks = replicate 16 0;
+      steps = steps;
     }
 
 -- the counts of four idle slots, in a period in which domain 1 yielded 1
@@ -133,7 +136,31 @@ idleCounts =
       reclaimed = replicate 16 0;
       yielded = 1 ∷ replicate 15 0;
       writebacks = replicate 16 0;
+      steps = 68;
     }
+
+-- plan A after two idle slots and one of domain 2, as in case i, but for its running sum of steps
+abbrev summing : ℕ → State
+summing steps =
+    record {
+      plan = valueOf 4 2;
+      decided = 3;
+      closed = 0;
+      idle = 2;
+      best = 0;
+      stock = 0;
+      turn = 3;
+      claim = 2 ∷ replicate 15 0;
+      reserved = 0 ∷ 1 ∷ replicate 14 0;
+      reclaimed = replicate 16 0;
+      yielded = replicate 16 0;
+      writebacks = replicate 16 0;
+      steps = steps;
+    }
+
+-- a yield of 1 by domain 1 there: 0, or 30 and nothing moves
+abbrev yieldsThere : ℕ → ℤ → Outcome
+yieldsThere n loose = answers 0 (record { refused = n; verdicts = []; idle = 2; loose = loose; counts = none; steps = 0 } ∷ [])
 
 -- "four times `s 11100000000000000`, then `y 1 1`, three times the same slot line, then `s 01000000000000000`"
 abbrev pub script : List Call
@@ -146,7 +173,7 @@ scriptText =
     "s 11100000000000000\ns 11100000000000000\ns 11100000000000000\ns 11100000000000000\ny 1 1\ns 11100000000000000\ns 11100000000000000\ns 11100000000000000\ns 01000000000000000\n"
 
 abbrev outputText : List ℕ
-outputText = bytes "period idle best domains\n1 0 1 1:2+0-0w0 2:1+0-0w0\n2 0 1 1:1+1-1w0 2:1+0-0w0\nopen 0\n"
+outputText = bytes "period idle best domains\n1 0 1 1:2+0-0w0 2:1+0-0w0 s15\n2 0 1 1:1+1-1w0 2:1+0-0w0 s30\nopen 0\n"
 
 abbrev pub cases : List Case
 cases =
@@ -171,25 +198,25 @@ cases =
       input = calls planA (replicate 4 (offer 1 1 1));
       outcome =
           answers 0
-          (told 1 2 2 0 (pos 0) ∷ told 6 1 2 0 (pos 0) ∷ told 6 2 1 0 (pos 0) ∷ completes 6 1 4 (countsWith 1 2 0 0) ∷ []);
+          (told 1 2 2 0 (pos 0) 0 ∷ told 6 1 2 0 (pos 0) 0 ∷ told 6 2 1 0 (pos 0) 0 ∷ completes 6 1 4 (countsWith 1 2 0 0 15) 15 ∷ []);
     }
     -- h: "fresh, only domain 1 offers accesses in three slots: 1, 1, then 5 and an idle slot"
     ∷ record {
       input = calls planA (replicate 3 (offer 0 1 0));
-      outcome = answers 0 (told 0 1 0 0 (pos 1) ∷ told 0 1 0 0 (pos 1) ∷ told 0 5 0 1 (pos 0) ∷ []);
+      outcome = answers 0 (told 0 1 0 0 (pos 1) 1 ∷ told 0 1 0 0 (pos 1) 16 ∷ told 0 5 0 1 (pos 0) 17 ∷ []);
     }
     -- i: "fresh, two idle slots, then 0 and 2 offer accesses: loose is −1, verdicts 6 and 1" (−1 is `negsuc 0`)
     ∷ record {
       input = calls planA (offer 0 0 0 ∷ offer 0 0 0 ∷ offer 1 0 1 ∷ []);
-      outcome = answers 0 (told 0 0 0 1 (pos 0) ∷ told 0 0 0 2 (negsuc 0) ∷ told 6 0 1 2 (negsuc 0) ∷ []);
+      outcome = answers 0 (told 0 0 0 1 (pos 0) 17 ∷ told 0 0 0 2 (negsuc 0) 17 ∷ told 6 0 1 2 (negsuc 0) 2 ∷ []);
     }
     -- j: "0 alone there: 1"
     ∷ record {
       input = calls planA (offer 0 0 0 ∷ offer 0 0 0 ∷ offer 1 0 0 ∷ []);
-      outcome = answers 0 (told 0 0 0 1 (pos 0) ∷ told 0 0 0 2 (negsuc 0) ∷ told 1 0 0 2 (negsuc 1) ∷ []);
+      outcome = answers 0 (told 0 0 0 1 (pos 0) 17 ∷ told 0 0 0 2 (negsuc 0) 17 ∷ told 1 0 0 2 (negsuc 1) 0 ∷ []);
     }
     -- k: "fresh, domain 2 offers a writeback: 3"
-    ∷ record { input = calls planA (offer 0 0 2 ∷ []); outcome = answers 0 (told 0 0 3 1 (pos 0) ∷ []) }
+    ∷ record { input = calls planA (offer 0 0 2 ∷ []); outcome = answers 0 (told 0 0 3 1 (pos 0) 17 ∷ []) }
     -- l: "fresh, domain 1 yields 3: 23; 2 is taken"
     ∷ record { input = calls planA (yield 1 3 ∷ yield 1 2 ∷ []); outcome = answers 0 (yields 23 (pos 1) ∷ yields 0 (pos 3) ∷ []) }
     -- 'Misreadings to rule out': "Summing Q over records off the chain"
@@ -207,7 +234,7 @@ cases =
     -- "A reclaimed pass that also lowers the yielder's claim": domain 1 keeps its claim of 1, so loose is 2 − 1 in the end
     ∷ record {
       input = calls reclaiming (yield 1 1 ∷ offer 0 0 1 ∷ offer 0 0 1 ∷ []);
-      outcome = answers 0 (yields 0 (pos 2) ∷ told 0 0 1 0 (pos 2) ∷ told 0 0 1 0 (pos 1) ∷ []);
+      outcome = answers 0 (yields 0 (pos 2) ∷ told 0 0 1 0 (pos 2) 2 ∷ told 0 0 1 0 (pos 1) 16 ∷ []);
     }
     -- "Stock carried into the next period": what domain 1 yields in one period is not there in the next
     ∷ record {
@@ -215,19 +242,19 @@ cases =
       outcome =
           answers 0
           (yields 0 (pos 2)
-          ∷ told 0 0 0 1 (pos 1)
-          ∷ told 0 0 0 2 (pos 0)
-          ∷ told 0 0 0 3 (negsuc 0)
-          ∷ completes 0 0 0 idleCounts
-          ∷ told 0 1 0 0 (pos 1)
-          ∷ told 0 1 0 0 (pos 1)
-          ∷ told 0 5 0 1 (pos 0)
+          ∷ told 0 0 0 1 (pos 1) 17
+          ∷ told 0 0 0 2 (pos 0) 17
+          ∷ told 0 0 0 3 (negsuc 0) 17
+          ∷ completes 0 0 0 idleCounts 17
+          ∷ told 0 1 0 0 (pos 1) 1
+          ∷ told 0 1 0 0 (pos 1) 16
+          ∷ told 0 5 0 1 (pos 0) 17
           ∷ []);
     }
     -- "With none, the slot is idle .. and the turn remains": it is at 2 before the idle slot and after it
     ∷ record {
       input = calls planA (offer 0 1 1 ∷ offer 0 0 0 ∷ offer 0 1 1 ∷ []);
-      outcome = answers 0 (told 0 1 2 0 (pos 1) ∷ told 0 0 0 1 (pos 0) ∷ told 0 2 1 1 (pos 0) ∷ []);
+      outcome = answers 0 (told 0 1 2 0 (pos 1) 1 ∷ told 0 0 0 1 (pos 0) 17 ∷ told 0 2 1 1 (pos 0) 0 ∷ []);
     }
     -- 32 "an offer byte above 2"; 22 "k is 0"; "Nothing lent changes"
     ∷ record { input = calls planA (offer 3 0 0 ∷ yield 1 0 ∷ []); outcome = answers 0 (refusedCall 32 nines ∷ refusedCall 22 [] ∷ []) }
@@ -241,20 +268,26 @@ cases =
     ∷ record { input = line (bytes "s 31100000000000000") nines; outcome = meaning (slotLine (three 3 1 1)) (three 3 1 1) }
     ∷ record { input = line (bytes "y 01 0001") nines; outcome = meaning (yieldLine 1 1) nines }
     ∷ record { input = line (bytes "y 1 00001") nines; outcome = meaning (badLine 41) nines }
-    -- the script, whose fifth slot shows "The turn put back to 0 at each period": `1 0 1 1:2+0-0w0 2:1+0-0w0`, `2 0 1 1:1+1-1w0 2:1+0-0w0`
+    -- document 02, Point 9: a state adds up only if its running sum is "from 17 × idle to 17 × idle + 16 × (T − idle)", 34 to 50 here
+    ∷ record { input = given (summing 33) (yield 1 1); outcome = yieldsThere 30 (negsuc 0) }
+    ∷ record { input = given (summing 34) (yield 1 1); outcome = yieldsThere 0 (pos 0) }
+    ∷ record { input = given (summing 50) (yield 1 1); outcome = yieldsThere 0 (pos 0) }
+    ∷ record { input = given (summing 51) (yield 1 1); outcome = yieldsThere 30 (negsuc 0) }
+    -- the script, whose fifth slot shows "The turn put back to 0 at each period": `1 0 1 1:2+0-0w0 2:1+0-0w0`, `2 0 1 1:1+1-1w0 2:1+0-0w0`;
+    -- and Point 9, "document 01's run: 15, then 30"
     ∷ record {
       input = calls planA script;
       outcome =
           answers 0
-          (told 1 2 2 0 (pos 0)
-          ∷ told 6 1 2 0 (pos 0)
-          ∷ told 6 2 1 0 (pos 0)
-          ∷ completes 6 1 4 (countsWith 1 2 0 0)
+          (told 1 2 2 0 (pos 0) 0
+          ∷ told 6 1 2 0 (pos 0) 0
+          ∷ told 6 2 1 0 (pos 0) 0
+          ∷ completes 6 1 4 (countsWith 1 2 0 0 15) 15
           ∷ yields 0 (pos 2)
-          ∷ told 2 2 1 0 (pos 2)
-          ∷ told 1 2 4 0 (pos 1)
-          ∷ told 2 1 4 0 (pos 1)
-          ∷ completes 0 1 0 (countsWith 1 1 1 1)
+          ∷ told 2 2 1 0 (pos 2) 0
+          ∷ told 1 2 4 0 (pos 1) 14
+          ∷ told 2 1 4 0 (pos 1) 0
+          ∷ completes 0 1 0 (countsWith 1 1 1 1 30) 16
           ∷ []);
     }
     -- "All of the output"
@@ -264,7 +297,7 @@ cases =
       input =
           replayed planA
           (bytes "y 1 2\ns 01100000000000000\ns 01100000000000000\ns 01100000000000000\ns 01100000000000000\n");
-      outcome = prints (bytes "period idle best domains\n1 2 0 1:0+1-2w0 2:1+0-0w0\nopen 0\n");
+      outcome = prints (bytes "period idle best domains\n1 2 0 1:0+1-2w0 2:1+0-0w0 s35\nopen 0\n");
     }
     -- "A refused line prints `line L refused N` (L from 1) after what stands printed and ends the run without `open`"
     ∷ record {

@@ -17,13 +17,13 @@ use Rattle.plan.specs.Sums.{sumsTold}
 use Rattle.plan.specs.Writing.{recordOf, recordsFrom, writePlan, written}
 use Rattle.regulator.specs.State.{numbersAddUp, domainAddsUp, addsUp}
 use Rattle.regulator.specs.Verdict.{atCap, waits, waiting, loose, blocked, ruling, rulingAt, rulingOf}
-use Rattle.regulator.specs.Turn.{after, ask, granted, verdicts}
+use Rattle.regulator.specs.Turn.{after, ask, granted, passedBy, stepsOf, verdicts}
 use Rattle.regulator.specs.Grant.{domainGrant, grant}
 use Rattle.regulator.specs.Close.{ended}
 use Rattle.regulator.specs.Refusals.{offersRefusal, slotRefusal, noDomain, yieldRefusal}
 use Rattle.regulator.specs.Calls.{openPlan, oneSlot, slotOf, verdictsIn, yieldOf}
 use Rattle.script.specs.Line.{isDigit, isNumber, valueFrom, before, behind, isSlot, offersOf, slotMeaning, isYield, yieldMeaning, meaningOf, offersIn}
-use Rattle.script.specs.Text.{digitsOf, decimal, header, domainText, domainsText, periodText, openText, refusedText}
+use Rattle.script.specs.Text.{digitsOf, decimal, header, domainText, domainsText, stepsText, periodText, openText, refusedText}
 use Rattle.script.specs.Replay.{split, carriedOut, linesText, replayText}
 use Rattle.share.specs.Call.{Call}
 use Rattle.share.specs.Ledger.{Period, blank, slotEntry, enter, moments}
@@ -53,7 +53,7 @@ below n m h = h
 computed : Starred
     × At (Met 0 2 0 2) (readPlan planA .plan) script 4
     × At (Met 0 2 1 1) (readPlan planA .plan) script 10
-unfolding sum raised lowered has lastOf valuesBelow everyBelow someBelow lowestFrom withAll domainsTo outside above outOfRange reserved planRefusal unlisted linkOf faultAt fault goesOn walk chainOf sumsFrom noLength readPlan sumsTold recordOf recordsFrom writePlan written numbersAddUp domainAddsUp addsUp atCap waits waiting loose blocked ruling rulingAt rulingOf after ask granted verdicts domainGrant grant ended openPlan offersRefusal slotRefusal oneSlot slotOf verdictsIn noDomain yieldRefusal yieldOf made run taken fed slotEntry enter moments outcomeOf each isDigit isNumber valueFrom before behind isSlot offersOf slotMeaning isYield yieldMeaning meaningOf offersIn digitsOf decimal header domainText domainsText periodText openText refusedText split carriedOut linesText replayText
+unfolding sum raised lowered has lastOf valuesBelow everyBelow someBelow lowestFrom withAll domainsTo outside above outOfRange reserved planRefusal unlisted linkOf faultAt fault goesOn walk chainOf sumsFrom noLength readPlan sumsTold recordOf recordsFrom writePlan written numbersAddUp domainAddsUp addsUp atCap waits waiting loose blocked ruling rulingAt rulingOf after ask granted passedBy stepsOf verdicts domainGrant grant ended openPlan offersRefusal slotRefusal oneSlot slotOf verdictsIn noDomain yieldRefusal yieldOf made run taken fed slotEntry enter moments outcomeOf each isDigit isNumber valueFrom before behind isSlot offersOf slotMeaning isYield yieldMeaning meaningOf offersIn digitsOf decimal header domainText domainsText stepsText periodText openText refusedText split carriedOut linesText replayText
 computed = (
   refl,
   (below 4 12 (omega arith), record { completed = refl; asking = (λ h. inl refl, (λ h. inl refl, (λ h. inl refl, (λ h. inl refl, tt)))); reserved = refl; gives = refl; takes = refl }),
