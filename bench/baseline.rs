@@ -1,4 +1,5 @@
-//! The replay program of document 01 in Rust, written for speed: what the bench holds `replay` against.
+//! The replay program of document 01 in Rust, with the sum of steps of document 02's Point 9, written for
+//! speed: what the bench holds `replay` against.
 //!
 //! Lines are read where they lie in one block of input, and output leaves in one block, so memory is the same
 //! for any script and any line. All domains are handled at once by bit masks (bit n is number n), and masks
@@ -16,11 +17,13 @@ const MOST_SLOTS: u16 = 4096;
 const LONGEST_LINE: usize = 20;
 const INPUT_BLOCK: usize = 1 << 16;
 const OUTPUT_BLOCK: usize = 1 << 16;
-/// No output line is as long as this: 16 domains of at most 23 bytes, three numbers and byte 10.
+/// No output line is as long as this: 16 domains of at most 23 bytes, four numbers and byte 10.
 const LONGEST_OUTPUT: usize = 512;
 
 /// Numbers: 0 is best effort, 1 to 16 are domains, 17 stands for an idle slot.
 const IDLE: usize = 17;
+/// How many numbers are asked in a whole round, as in an idle slot.
+const ROUND: u32 = 17;
 const BEST_EFFORT_BIT: u32 = 1;
 const DOMAIN_BITS: u32 = 0x1fffe;
 
@@ -218,6 +221,8 @@ struct Period {
     /// Slots left less all claims.
     loose: i32,
     stock: u32,
+    /// Numbers asked and passed by, over the slots decided.
+    steps: u32,
     /// Numbers with claim above 0; with reclaimed passes below R; with writebacks below W, and best effort.
     has_claim: u32,
     may_reclaim: u32,
@@ -237,6 +242,7 @@ impl Regulator {
             left: period,
             loose: period as i32,
             stock: 0,
+            steps: 0,
             has_claim: 0,
             may_reclaim: 0,
             has_room: BEST_EFFORT_BIT,
@@ -284,7 +290,12 @@ impl Regulator {
         let from_turn = passing >> self.turn << self.turn;
         let asked = if from_turn != 0 { from_turn } else { passing };
         let n = (asked | 1 << IDLE).trailing_zeros() as usize;
-        self.turn = if n == IDLE { self.turn } else { n as u32 + 1 };
+        // The turn moves over the numbers passed by and the granted one. A search that goes round after 16 is a
+        // round longer than the turns tell, and so is an idle one, which leaves the turn where it was.
+        let round = if from_turn != 0 { 0 } else { ROUND };
+        let next = if n == IDLE { self.turn } else { n as u32 + 1 };
+        p.steps += round + next - self.turn - (n != IDLE) as u32;
+        self.turn = next;
 
         // Sums of 0 and 1 in place of branches: which kind of pass it is cannot be foreseen.
         let row = &mut p.rows[n & 31];
@@ -323,6 +334,8 @@ impl Regulator {
             out.byte(b'w');
             out.number(row.writebacks);
         }
+        out.text(" s");
+        out.number(self.now.steps);
         self.now = self.fresh;
         out.end_line()
     }
