@@ -4,6 +4,13 @@ use super::cells;
 use super::sums;
 use super::verdict;
 
+// What a slot call tells beside verdicts and counts: its refusal, or 0, and the numbers asked before the one granted, 0 where
+// it is refused.
+pub struct Decision {
+    pub number: u32,
+    pub steps: u32,
+}
+
 // Opens a plan: its state, or all zeros where it is refused.
 pub fn open(period: u32, domains: [u32; 64], s: &mut [u64]) -> model_plans::Told {
     let told = model_plans::check(period, domains);
@@ -132,6 +139,7 @@ fn put_counts(s: &[u64], counts: &mut [u64]) {
     let others = less(cells::get(s, 0, cells::PERIOD), passes);
     cells::put(counts, 0, cells::BEST, best);
     cells::put(counts, 0, cells::IDLE, less(others, best));
+    cells::put(counts, 0, cells::STEPS, cells::get(s, 0, cells::STEPS));
     let mut n: usize = 1;
     while n <= 16 {
         put_domain_counts(s, counts, n);
@@ -139,10 +147,14 @@ fn put_counts(s: &[u64], counts: &mut [u64]) {
     }
 }
 
-fn decide(s: &mut [u64], offers: &[u8], verdicts: &mut [u8]) {
+// Decides a slot, and tells how many numbers were passed by.
+fn decide(s: &mut [u64], offers: &[u8], verdicts: &mut [u8]) -> u32 {
     let chosen = verdict::granted(s, offers);
+    let steps = verdict::steps(s, chosen);
     verdict::put_verdicts(s, offers, chosen, verdicts);
     enter(s, offers, chosen);
+    cells::add(s, 0, cells::STEPS, steps as u64);
+    steps
 }
 
 // Closes a period: puts its counts, and starts the next.
@@ -153,17 +165,17 @@ fn close(s: &mut [u64], counts: &mut [u64]) {
 }
 
 // Decides a slot, or tells its refusal. The counts are all 0 where none are told.
-pub fn slot(s: &mut [u64], offers: &[u8], verdicts: &mut [u8], counts: &mut [u64]) -> u32 {
+pub fn slot(s: &mut [u64], offers: &[u8], verdicts: &mut [u8], counts: &mut [u64]) -> Decision {
     cells::clear(counts);
     let number = slot_refusal(s, offers, verdicts.len());
     if number != 0 {
-        return number;
+        return Decision { number, steps: 0 };
     }
-    decide(s, offers, verdicts);
+    let steps = decide(s, offers, verdicts);
     if cells::get(s, 0, cells::DECIDED) >= cells::get(s, 0, cells::PERIOD) {
         close(s, counts);
     }
-    0
+    Decision { number: 0, steps }
 }
 
 fn yield_refusal(s: &[u64], domain: u64, k: u64) -> u32 {

@@ -21,6 +21,8 @@ pub const STOCK: usize = 5;
 
 pub const TURN: usize = 6;
 
+pub const STEPS: usize = 7;
+
 // The columns of a domain's row.
 pub const PRESENT: usize = 0;
 
@@ -138,6 +140,7 @@ pub fn start_period(s: &mut [u64]) {
     put(s, 0, IDLE, 0);
     put(s, 0, BEST, 0);
     put(s, 0, STOCK, 0);
+    put(s, 0, STEPS, 0);
     let mut n: usize = 1;
     while n <= 16 {
         start_domain(s, n);

@@ -1,6 +1,8 @@
-// The ledger of document 01: fed the plan, the calls, whether each was refused, and the verdicts; never a state.
-// Its page has the rows and columns of `cells`: in row 0 the period, slots decided, idle and best effort; in a domain's
-// row Q, R, W, claim left, passes on claim, reclaimed, yielded and writebacks, and in column 0 whether it kept asking.
+// The ledger of document 01: fed the plan, the calls, whether each was refused, and the verdicts and steps of a decided slot;
+// never a state.
+// Its page has the rows and columns of `cells`: in row 0 the period, slots decided, idle, best effort and the sum of the steps
+// fed; in a domain's row Q, R, W, claim left, passes on claim, reclaimed, yielded and writebacks, and in column 0 whether it
+// kept asking.
 ghost use Prim.Native.Nat.{_+_, _<_, _≤_};
 use super::cells;
 use super::verdict;
@@ -149,32 +151,28 @@ fn enter_grant(page: &mut [u64], offers: &[u8], n: usize) {
     }
 }
 
-// What is told for a word of the page: idle, best effort, and a domain's passes, reclaimed, yielded and writebacks, where
-// a period is complete.
+// Whether a word of the page is told: idle, best effort and the sum of steps, and a domain's passes, reclaimed, yielded and
+// writebacks.
+fn is_told(row: usize, column: usize) -> bool {
+    if row > 0 {
+        return column >= cells::RESERVED;
+    }
+    match column {
+        cells::IDLE | cells::BEST | cells::STEPS => true,
+        _ => false,
+    }
+}
+
+// What is told for a word of the page where a period is complete.
 fn count_due(page: &[u64], k: usize, complete: bool) -> u64 {
     let row = k / 9;
     let column = k % 9;
-    let first = if row == 0 {
-        cells::IDLE
-    } else {
-        cells::RESERVED
-    };
-    let last = if row == 0 {
-        cells::BEST
-    } else {
-        cells::WRITEBACKS
-    };
-    if column < first {
-        return 0;
+    if is_told(row, column) {
+        if complete {
+            return cells::get(page, row, column);
+        }
     }
-    if column > last {
-        return 0;
-    }
-    if complete {
-        cells::get(page, row, column)
-    } else {
-        0
-    }
+    0
 }
 
 // Whether counts are told just where a period completes, and are the page's.
@@ -224,11 +222,12 @@ fn settled(page: &[u64]) -> Shares
 }
 
 // Enters a decided slot, and tells as a fault a second verdict 1.
-fn enter_decided(page: &mut [u64], offers: &[u8], verdicts: &[u8]) -> u32
+fn enter_decided(page: &mut [u64], offers: &[u8], verdicts: &[u8], steps: u32) -> u32
     ensures { λ r. ⌜ r ≤ 1 ⌝ }
 {
     mark_asking(page, offers);
     cells::add(page, 0, cells::DECIDED, 1);
+    cells::add(page, 0, cells::STEPS, words::wider(steps));
     let n = next_one(verdicts, 0);
     enter_grant(page, offers, n);
     if n < 17 {
@@ -259,19 +258,20 @@ fn untrue_counts(page: &[u64], complete: bool, told: bool, counts: &[u64]) -> u3
     words::one_if(!counts_agree(page, complete, told, counts))
 }
 
-// A slot call: its offers, whether it was refused, its verdicts, whether counts were told, and which.
+// A slot call: its offers, whether it was refused, its verdicts, the steps that it told, whether counts were told, and which.
 pub fn enter_slot(
     page: &mut [u64],
     offers: &[u8],
     refused: bool,
     verdicts: &[u8],
+    steps: u32,
     told: bool,
     counts: &[u64],
 ) -> Entry {
     if refused {
         return open_entry(page, untrue_counts(page, false, told, counts));
     }
-    let second = enter_decided(page, offers, verdicts);
+    let second = enter_decided(page, offers, verdicts, steps);
     let complete = cells::get(page, 0, cells::DECIDED) == cells::get(page, 0, cells::PERIOD);
     let faults = second + untrue_counts(page, complete, told, counts);
     if complete {

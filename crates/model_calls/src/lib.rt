@@ -6,6 +6,7 @@ mod ledger;
 mod sums;
 mod verdict;
 
+pub use calls::Decision;
 pub use calls::open;
 pub use calls::slot;
 pub use calls::take_yield;

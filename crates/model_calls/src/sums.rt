@@ -32,11 +32,23 @@ fn domains_fit(s: &[u64]) -> bool {
     true
 }
 
+// Whether the running sum is one that so many idle slots, 17 each, and so many passes, up to 16 each, can come to.
+fn steps_fit(s: &[u64], passes: u64) -> bool
+    requires { ⌜ passes < 1099511627776 ⌝ }
+{
+    let steps = cells::get(s, 0, cells::STEPS);
+    let least = 17 * cells::get(s, 0, cells::IDLE);
+    if steps < least {
+        return false;
+    }
+    steps <= least + 16 * passes
+}
+
 pub fn adds_up(s: &[u64]) -> bool {
     let period = cells::get(s, 0, cells::PERIOD);
     let decided = cells::get(s, 0, cells::DECIDED);
     let reclaimed = cells::total(s, cells::RECLAIMED);
-    let others = cells::get(s, 0, cells::IDLE) + cells::get(s, 0, cells::BEST);
+    let passes = cells::get(s, 0, cells::BEST) + cells::total(s, cells::RESERVED) + reclaimed;
     if decided >= period {
         return false;
     }
@@ -46,7 +58,10 @@ pub fn adds_up(s: &[u64]) -> bool {
     if cells::get(s, 0, cells::STOCK) + reclaimed != cells::total(s, cells::YIELDED) {
         return false;
     }
-    if others + cells::total(s, cells::RESERVED) + reclaimed != decided {
+    if cells::get(s, 0, cells::IDLE) + passes != decided {
+        return false;
+    }
+    if !steps_fit(s, passes) {
         return false;
     }
     if domains_fit(s) {

@@ -104,6 +104,18 @@ pub fn granted(s: &[u64], offers: &[u8]) -> usize
     }
 }
 
+// How many numbers, from the turn on, were asked before the one granted: all seventeen where nobody is.
+pub fn steps(s: &[u64], chosen: usize) -> u32
+    requires { ⌜ chosen ≤ 17 ⌝ }
+{
+    let turn = (cells::get(s, 0, cells::TURN) % 17) as usize;
+    if chosen == NOBODY {
+        17
+    } else {
+        ((chosen + 17 - turn) % 17) as u32
+    }
+}
+
 // Puts the verdicts of all numbers, where one of them, or NOBODY, is granted.
 pub fn put_verdicts(s: &[u64], offers: &[u8], chosen: usize, verdicts: &mut [u8]) {
     let mut n: usize = 0;

@@ -42,6 +42,14 @@ fn domain_fields(out: &mut [u8], from: usize, s: &[u64], counts: &[u64]) -> usiz
     at
 }
 
+// What a period's line tells behind its number; the sum of steps is the last.
+fn period_fields(out: &mut [u8], from: usize, s: &[u64], counts: &[u64]) -> usize {
+    let mut at = text::put_field(out, from, b" ", cells::get(counts, 0, cells::IDLE));
+    at = text::put_field(out, at, b" ", cells::get(counts, 0, cells::BEST));
+    at = domain_fields(out, at, s, counts);
+    text::put_field(out, at, b" s", cells::get(counts, 0, cells::STEPS))
+}
+
 // The line of the period that was closed; none where as many are closed as were before.
 fn period_line(out: &mut [u8], from: usize, s: &[u64], counts: &[u64], before: u64) -> usize {
     let closed = cells::get(s, 0, cells::CLOSED);
@@ -49,9 +57,7 @@ fn period_line(out: &mut [u8], from: usize, s: &[u64], counts: &[u64], before: u
         return from;
     }
     let mut at = text::put_number(out, from, closed);
-    at = text::put_field(out, at, b" ", cells::get(counts, 0, cells::IDLE));
-    at = text::put_field(out, at, b" ", cells::get(counts, 0, cells::BEST));
-    at = domain_fields(out, at, s, counts);
+    at = period_fields(out, at, s, counts);
     text::put_byte(out, at, 10)
 }
 
@@ -59,7 +65,8 @@ fn period_line(out: &mut [u8], from: usize, s: &[u64], counts: &[u64], before: u
 fn carried_out(l: Line, s: &mut [u64], offers: &[u8], counts: &mut [u64]) -> u32 {
     if l.form == form::SLOT {
         let mut verdicts = [0u8; 17];
-        return model_calls::slot(s, offers, &mut verdicts, counts);
+        let d = model_calls::slot(s, offers, &mut verdicts, counts);
+        return d.number;
     }
     if form::is_yield(l.form) {
         model_calls::take_yield(s, l.domain, l.k)
