@@ -1,4 +1,5 @@
 // One call of the library and of the model on the same state, compared; and its entry into the ledger.
+use model_calls::Decision;
 use model_calls::Entry;
 use plan::Plan;
 use regulator::Answer;
@@ -20,6 +21,7 @@ pub struct Outcome {
     pub verdicts: [u8; 18],
     pub complete: bool,
     pub counts: Counts,
+    pub steps: u32,
 }
 
 pub fn no_counts() -> Counts {
@@ -30,6 +32,7 @@ pub fn no_counts() -> Counts {
         reclaimed: [0; 16],
         yielded: [0; 16],
         writebacks: [0; 16],
+        steps: 0,
     }
 }
 
@@ -52,7 +55,7 @@ fn model_slot(
     verdicts: &mut [u8],
     lent: usize,
     counts: &mut [u64],
-) -> u32 {
+) -> Decision {
     let given = least(offered, offers.len());
     let size = least(lent, verdicts.len());
     model_calls::slot(s, &offers[0..given], &mut verdicts[0..size], counts)
@@ -91,7 +94,7 @@ fn slot_verdict(s: State, c: Call, a: Answer, told: [u8; 18]) -> Verdict {
     let mut verdicts = [c.filled; 18];
     forms::put_state(&mut words, s);
     let offers = c.offers;
-    let number = model_slot(
+    let d = model_slot(
         &mut words,
         &offers,
         c.offered,
@@ -101,11 +104,15 @@ fn slot_verdict(s: State, c: Call, a: Answer, told: [u8; 18]) -> Verdict {
     );
     let state = a.state;
     let period = a.counts;
-    let refusal = both(a.refused as u32 == number, a.complete == closes(s, &words));
+    let refusal = both(
+        a.refused as u32 == d.number,
+        a.complete == closes(s, &words),
+    );
     let values = both(same_state(state, &words), same_counts(period, &counts));
+    let numbers = both(a.steps == d.steps, same_bytes(told, verdicts));
     Verdict {
-        number,
-        same: both(both(refusal, values), same_bytes(told, verdicts)),
+        number: d.number,
+        same: both(both(refusal, values), numbers),
     }
 }
 
@@ -123,10 +130,11 @@ fn slot_call(s: State, c: Call) -> Outcome {
         verdicts,
         complete: a.complete,
         counts,
+        steps: a.steps,
     }
 }
 
-// The outcome of a call that tells neither verdicts nor counts.
+// The outcome of a call that tells neither verdicts nor steps nor counts.
 fn of_state(verdict: Verdict, refused: bool, place: u32, state: State) -> Outcome {
     Outcome {
         verdict,
@@ -136,6 +144,7 @@ fn of_state(verdict: Verdict, refused: bool, place: u32, state: State) -> Outcom
         verdicts: [0; 18],
         complete: false,
         counts: no_counts(),
+        steps: 0,
     }
 }
 
@@ -183,7 +192,15 @@ fn entered_slot(page: &mut [u64], c: Call, o: Outcome) -> Entry {
     let told = o.counts;
     let mut counts = [0u64; 153];
     forms::put_counts(&mut counts, told);
-    model_calls::enter_slot(page, &offers, o.refused, &verdicts, o.complete, &counts)
+    model_calls::enter_slot(
+        page,
+        &offers,
+        o.refused,
+        &verdicts,
+        o.steps,
+        o.complete,
+        &counts,
+    )
 }
 
 // Feeds the ledger a call, whether the library refused it, and what it told.

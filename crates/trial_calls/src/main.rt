@@ -14,7 +14,7 @@ mod run;
 mod script;
 mod seen;
 
-const KINDS: u32 = 20;
+const KINDS: u32 = 22;
 
 fn start() -> Run {
     let o = regulator::open(values::nothing());
@@ -22,7 +22,7 @@ fn start() -> Run {
     Run {
         state,
         tally: tally::start(),
-        seen: Seen { counts: [0; 16] },
+        seen: Seen { counts: [0; 40] },
     }
 }
 

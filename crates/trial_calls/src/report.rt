@@ -32,7 +32,9 @@ fn say_name(kind: u32) {
         states with several numbers off that keep some sums\n\
         states whose sums are right modulo 65,536\n\
         states of drawn numbers\n\
-        states at 4,294,967,294 and 4,294,967,295 closed periods\n",
+        states at 4,294,967,294 and 4,294,967,295 closed periods\n\
+        states with their sum of steps at a bound, one outside, or far off\n\
+        a run with P 4,096 and no offers\n",
         kind as usize,
     );
 }

@@ -13,6 +13,7 @@ use trial_states::calls::Call;
 use trial_states::changes;
 use trial_states::draws;
 use trial_states::styles::Style;
+use trial_states::sums;
 
 // The state after the calls so far, and what was compared and seen.
 pub struct Run {
@@ -68,12 +69,13 @@ fn counted(r: Run, of: Case, v: Verdict) -> Run {
     after
 }
 
-// The run with a changed state more seen, and whether it still adds up.
-fn with_change_seen(r: Run, adds: bool) -> Run {
+// The run with a changed state more seen, whether it still adds up, and where its sum of steps stands.
+fn with_change_seen(r: Run, adds: bool, edge: usize) -> Run {
     let mut after = r;
     let so_far = r.seen;
     let changed = seen::raised(so_far, seen::CHANGED, 1);
-    let seen = seen::raised(changed, seen::ADDING, if adds { 1 } else { 0 });
+    let adding = seen::raised(changed, seen::ADDING, if adds { 1 } else { 0 });
+    let seen = seen::raised(adding, seen::EDGES + edge % 5, 1);
     after.seen = seen;
     after
 }
@@ -85,12 +87,14 @@ fn drawn_call(s: State, of: Case, style: Style, seed: u32, yields: bool) -> Outc
 // A slot call on a changed state, and a yield on what it answers; the run's own state stays.
 fn with_changed(r: Run, of: Case, style: Style, seed: u32) -> Run {
     let s = r.state;
-    let a = drawn_call(changes::changed(s, of.kind, seed), of, style, seed, false);
+    let other = changes::changed(s, of.kind, seed);
+    let a = drawn_call(other, of, style, seed, false);
     let t = a.state;
     let b = drawn_call(t, of, style, draw::draw(seed, 4), true);
     let v = a.verdict;
     let w = b.verdict;
-    with_change_seen(counted(counted(r, of, v), of, w), v.number != 30)
+    let after = counted(counted(r, of, v), of, w);
+    with_change_seen(after, v.number != 30, sums::edge(other))
 }
 
 fn step(r: Run, page: &mut [u64], of: Case, style: Style, i: u32) -> Run {
@@ -99,10 +103,9 @@ fn step(r: Run, page: &mut [u64], of: Case, style: Style, i: u32) -> Run {
     let yields = draw::upto(seed, 1, 15) < style.yields;
     let c = draws::call(s, style, of.seed, seed, yields);
     let after = entered(r, page, of, c, both::answered(s, c));
-    if of.kind < 15 {
-        after
-    } else {
-        with_changed(after, of, style, seed)
+    match of.kind {
+        15..=20 => with_changed(after, of, style, seed),
+        _ => after,
     }
 }
 

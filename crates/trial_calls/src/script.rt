@@ -3,13 +3,13 @@
 //   plan PPPP                       its plan: the period
 //   domain NN QQQQ RRRR WWWW        and each domain
 //   open NN PPPP                    opening tells this refusal and place
-//   slot OFFERS VERDICTS NN         a slot call, the bytes of the buffer after it (9 before it), and its refusal
+//   slot OFFERS VERDICTS NN SS      a slot call, the bytes of the buffer after it (9 before it), its refusal and its steps
 //   yield NN KKKK NN                a yield by a domain, and its refusal
-//   told 00 IIII BBBB 0000 0000     the counts told by the slot call before: idle and best effort,
+//   told 00 IIII BBBB SSSSS         the counts told by the slot call before: idle, best effort and the sum of steps,
 //   told NN RRRR CCCC YYYY WWWW     and a domain's reserved, reclaimed, yielded and writebacks
 //   none                            the slot call before told no counts
 //   has RR C VVVVVVVVVV             the word of the state in this row and column of the model
-//   already closed NNNNNNNNNN       the state is given so many closed periods
+//   alter RR C VVVVVVVVVV           that word is put to a value, in the ledger too
 ghost use Prim.Native.Nat.{_≤_};
 use super::both;
 use super::both::Outcome;
@@ -17,6 +17,7 @@ use super::run;
 use super::run::Case;
 use super::run::Run;
 use super::seen;
+use model_calls::cells;
 use plan::Plan;
 use regulator::Counts;
 use trial_kit::lines;
@@ -117,7 +118,8 @@ fn slot_line(s: Script, text: &[u8], at: usize, page: &mut [u64]) -> Script {
     let verdicts = o.verdicts;
     let due = digits_of(text, at, 23, 9);
     let after = called(s, page, c, o, lines::small(text, at, 41, 2));
-    stated(after, both::same_bytes(verdicts, due))
+    let counted = stated(after, o.steps == lines::small(text, at, 44, 2));
+    stated(counted, both::same_bytes(verdicts, due))
 }
 
 fn yield_line(s: Script, text: &[u8], at: usize, page: &mut [u64]) -> Script {
@@ -141,24 +143,28 @@ fn yield_line(s: Script, text: &[u8], at: usize, page: &mut [u64]) -> Script {
     )
 }
 
-// Whether count n of a row, which begin with idle in row 0 and with reserved in a domain's, is the number at an offset.
-fn tells(s: Script, text: &[u8], at: usize, n: usize) -> bool
-    requires { ⌜ n ≤ 3 ⌝ }
+// Whether the count in a column of the row that the line names is the number of so many digits at an offset.
+fn tells(c: Counts, text: &[u8], at: usize, column: usize, offset: usize, digits: usize) -> bool
+    requires { ⌜ column ≤ 8 ⌝ }
 {
-    let c = s.counts;
     let row = lines::small(text, at, 5, 2) as usize;
-    let due = lines::number(text, at, 8 + 5 * n, 4);
-    if row == 0 {
-        forms::count_word(c, 3 + n) == due
-    } else {
-        forms::count_word(c, 9 * row + 5 + n) == due
+    forms::count_word(c, 9 * row + column) == lines::number(text, at, offset, digits)
+}
+
+// Whether all counts of that row are those of the line.
+fn row_told(c: Counts, text: &[u8], at: usize) -> bool {
+    if lines::small(text, at, 5, 2) == 0 {
+        let slots = tally::both(tells(c, text, at, 3, 8, 4), tells(c, text, at, 4, 13, 4));
+        return tally::both(slots, tells(c, text, at, 7, 18, 5));
     }
+    let passes = tally::both(tells(c, text, at, 5, 8, 4), tells(c, text, at, 6, 13, 4));
+    let others = tally::both(tells(c, text, at, 7, 18, 4), tells(c, text, at, 8, 23, 4));
+    tally::both(passes, others)
 }
 
 fn told_line(s: Script, text: &[u8], at: usize) -> Script {
-    let first = tally::both(tells(s, text, at, 0), tells(s, text, at, 1));
-    let last = tally::both(tells(s, text, at, 2), tells(s, text, at, 3));
-    stated(s, tally::both(s.complete, tally::both(first, last)))
+    let c = s.counts;
+    stated(s, tally::both(s.complete, row_told(c, text, at)))
 }
 
 fn has_line(s: Script, text: &[u8], at: usize) -> Script {
@@ -168,11 +174,15 @@ fn has_line(s: Script, text: &[u8], at: usize) -> Script {
     stated(s, forms::word(state, k) == lines::number(text, at, 9, 10))
 }
 
-fn closed_line(s: Script, text: &[u8], at: usize) -> Script {
+fn alter_line(s: Script, text: &[u8], at: usize, page: &mut [u64]) -> Script {
     let mut r = s.run;
     let state = r.state;
-    let given = forms::with_word(state, 2, lines::number(text, at, 15, 10));
-    r.state = given;
+    let row = lines::small(text, at, 6, 2) as usize;
+    let column = lines::small(text, at, 9, 1) as usize;
+    let value = lines::number(text, at, 11, 10);
+    cells::put(page, row, column, value);
+    let altered = forms::with_word(state, 9 * row + column, value);
+    r.state = altered;
     with_run(s, r)
 }
 
@@ -221,7 +231,7 @@ fn plan_line(s: Script, text: &[u8], at: usize) -> Script {
     )
 }
 
-// A line that calls nothing.
+// A line that changes neither the state nor the ledger.
 fn given_line(s: Script, text: &[u8], at: usize) -> Script {
     match lines::byte(text, at) {
         b'c' => case_line(s, text, at),
@@ -229,8 +239,7 @@ fn given_line(s: Script, text: &[u8], at: usize) -> Script {
         b'd' => domain_line(s, text, at),
         b't' => told_line(s, text, at),
         b'n' => stated(s, !s.complete),
-        b'h' => has_line(s, text, at),
-        _ => closed_line(s, text, at),
+        _ => has_line(s, text, at),
     }
 }
 
@@ -239,6 +248,7 @@ fn line(s: Script, text: &[u8], at: usize, page: &mut [u64]) -> Script {
         b'o' => open_line(s, text, at, page),
         b's' => slot_line(s, text, at, page),
         b'y' => yield_line(s, text, at, page),
+        b'a' => alter_line(s, text, at, page),
         _ => given_line(s, text, at),
     }
 }

@@ -1,4 +1,4 @@
-// What the runs came to: verdicts, slots and periods, so that a program that does nothing is noticed.
+// What the runs came to: verdicts, slots, steps and periods, so that a program that does nothing is noticed.
 use super::both::Outcome;
 use model_calls::Entry;
 use regulator::Counts;
@@ -6,9 +6,9 @@ use trial_kit::lines::say_nth;
 use trial_kit::report;
 use trial_kit::values;
 
-// How often verdicts 0 to 6 were told stands at 0 to 6.
+// How often verdicts 0 to 6 were told stands at 0 to 6, how often steps 0 to 17 at 22 to 39.
 pub struct Seen {
-    pub counts: [u32; 16],
+    pub counts: [u32; 40],
 }
 
 pub const IDLE: usize = 7;
@@ -29,9 +29,15 @@ pub const ADDING: usize = 14;
 
 pub const STATED: usize = 15;
 
+pub const EDGES: usize = 16;
+
+const LARGEST: usize = 21;
+
+const STEPS: usize = 22;
+
 pub fn raised(seen: Seen, k: usize, by: u32) -> Seen {
     let mut after = seen;
-    let at = k % 16;
+    let at = k % 40;
     let x = after.counts[at];
     if x < 1000000000 {
         after.counts[at] = x + by % 65536;
@@ -50,9 +56,18 @@ fn with_verdicts(seen: Seen, verdicts: [u8; 18]) -> Seen {
     after
 }
 
+// A period's sum of steps, where it is the largest so far.
+fn with_sum(seen: Seen, sum: u32) -> Seen {
+    let mut after = seen;
+    if after.counts[LARGEST] < sum {
+        after.counts[LARGEST] = sum;
+    }
+    after
+}
+
 // The counts of a completed period.
 fn with_counts(seen: Seen, c: Counts) -> Seen {
-    let mut after = raised(seen, PERIODS, 1);
+    let mut after = with_sum(raised(seen, PERIODS, 1), c.steps);
     let mut i: usize = 0;
     while i < 16 {
         let one = raised(after, RECLAIMED, values::wide(c.reclaimed[i]));
@@ -63,13 +78,14 @@ fn with_counts(seen: Seen, c: Counts) -> Seen {
     after
 }
 
-// A slot that was decided: its verdicts, and whether it was idle.
+// A slot that was decided: its verdicts, its steps, and whether it was idle.
 fn with_slot(seen: Seen, o: Outcome, complete: bool) -> Seen {
     let verdicts = o.verdicts;
     let counts = o.counts;
     let told = with_verdicts(seen, verdicts);
     let granted = told.counts[1] != seen.counts[1];
-    let after = raised(told, IDLE, if granted { 0 } else { 1 });
+    let stepped = raised(told, STEPS + (o.steps % 18) as usize, 1);
+    let after = raised(stepped, IDLE, if granted { 0 } else { 1 });
     if complete {
         with_counts(after, counts)
     } else {
@@ -107,17 +123,35 @@ fn say_name(k: usize) {
         sentences of demand 3 that did not hold\n\
         changed states\n\
         changed states that still add up\n\
-        outcomes stated as numbers\n",
+        outcomes stated as numbers\n\
+        changed states whose sum of steps is the least for their slots\n\
+        changed states whose sum of steps is one less\n\
+        changed states whose sum of steps is the most for their slots\n\
+        changed states whose sum of steps is one more\n\
+        changed states whose sum of steps is another\n\
+        largest sum of steps of a completed period\n",
         k,
     );
 }
 
+// How often each number of steps was told.
+fn steps_line(seen: Seen) {
+    report::say(b"slots by their steps, 0 to 17:");
+    let mut k: usize = STEPS;
+    while k < 40 {
+        report::say_number(b" ", seen.counts[k]);
+        k += 1;
+    }
+    report::say(b"\n");
+}
+
 pub fn lines(seen: Seen) {
     let mut k: usize = 0;
-    while k < 16 {
+    while k < STEPS {
         say_name(k);
         report::say_number(b": ", seen.counts[k]);
         report::say(b"\n");
         k += 1;
     }
+    steps_line(seen);
 }

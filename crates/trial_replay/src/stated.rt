@@ -4,6 +4,7 @@
 //   at OOOO NNN                           a byte of the plan file
 //   size NNNN                             the bytes of the plan file
 //   > TEXT                                a line of the script
+//   * NNNN TEXT                           so many such lines
 //   + TEXT                                a part of a line of the script, without byte 10
 //   byte NNN                              a byte of the script
 //   < TEXT                                a line of the text that is due
@@ -46,11 +47,24 @@ fn put_line(to: &mut [u8], at: usize, given: &[u8], from: usize) -> usize {
     text::put_byte(to, end, 10)
 }
 
+// A line of the script so many times.
+fn put_times(script: &mut [u8], size: usize, given: &[u8], from: usize) -> usize {
+    let most = lines::small(given, from, 2, 4);
+    let mut at = size;
+    let mut k: u32 = 0;
+    while k < most {
+        at = put_line(script, at, given, std::num::wrapping_add_usize(from, 5));
+        k += 1;
+    }
+    at
+}
+
 // A line of the script; answers the bytes it then has.
 fn put_in_script(script: &mut [u8], size: usize, given: &[u8], at: usize) -> usize {
     match lines::byte(given, at) {
         b'>' => put_line(script, size, given, at),
         b'+' => put_rest(script, size, given, at),
+        b'*' => put_times(script, size, given, at),
         _ => text::put_byte(script, size, draw::low(lines::small(given, at, 5, 3))),
     }
 }
@@ -67,7 +81,7 @@ fn with_line(
     let mut after = p;
     match lines::byte(given, at) {
         b'f' | b'a' | b's' => after.file = put_in_file(file, p.file, given, at),
-        b'>' | b'+' | b'b' => after.script = put_in_script(script, p.script, given, at),
+        b'>' | b'*' | b'+' | b'b' => after.script = put_in_script(script, p.script, given, at),
         b'<' => after.due = put_line(due, p.due, given, at),
         _ => {}
     }

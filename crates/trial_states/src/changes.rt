@@ -1,12 +1,13 @@
 // States changed in one number, in several, or in all: most no longer add up, and each line of that rule is broken alone.
 use super::forms;
+use super::sums;
 use regulator::State;
 use trial_kit::bytes;
 use trial_kit::draw;
 use trial_kit::values;
 
 // The word of a column of the table below, for a domain: P, T, idle, best effort, stock; Q, R, W, claim, reserved,
-// reclaimed, yielded, writebacks.
+// reclaimed, yielded, writebacks; the sum of steps.
 fn word_of(column: usize, domain: usize) -> usize {
     match column {
         0 => 0,
@@ -14,16 +15,19 @@ fn word_of(column: usize, domain: usize) -> usize {
         2 => 3,
         3 => 4,
         4 => 5,
+        13 => 7,
         _ => 9 * (1 + domain % 16) + (column - 4) % 9,
     }
 }
 
-// A number raised or lowered; both go round.
+// A number raised or lowered, by so much or by 17 times that; both go round.
 fn shifted(s: State, k: usize, by: u64, sign: u8) -> State {
     let x = forms::word(s, k);
     match sign {
         b'+' => forms::with_word(s, k, std::num::wrapping_add_u64(x, by)),
         b'-' => forms::with_word(s, k, std::num::wrapping_sub_u64(x, by)),
+        b'>' => forms::with_word(s, k, std::num::wrapping_add_u64(x, by % 131072 * 17)),
+        b'<' => forms::with_word(s, k, std::num::wrapping_sub_u64(x, by % 131072 * 17)),
         _ => s,
     }
 }
@@ -32,7 +36,7 @@ fn shifted(s: State, k: usize, by: u64, sign: u8) -> State {
 fn moved(s: State, domain: usize, by: u64, rows: &[u8], from: usize) -> State {
     let mut after = s;
     let mut column: usize = 0;
-    while column < 13 {
+    while column < 14 {
         let sign = bytes::get(rows, std::num::wrapping_add_usize(from, column));
         let next = shifted(after, word_of(column, domain), by, sign);
         after = next;
@@ -41,43 +45,46 @@ fn moved(s: State, domain: usize, by: u64, rows: &[u8], from: usize) -> State {
     after
 }
 
-// Moves that keep some of the sums: slots, passes and yields as they go, their undoing, and parts of them. A row of signs
-// for each way.
+// Moves that keep some of the sums: slots, passes and yields as they go, their undoing, and parts of them; in the last three
+// idle slots come and go without their steps. A row of signs for each way.
 fn moved_in(s: State, way: u32, domain: usize, by: u64) -> State {
     moved(
         s,
         domain,
         by,
-        b"0++0000000000\
-        00+-000000000\
-        0000+000-00+0\
-        0+000000-+000\
-        0+00-00000+00\
-        00000000-+000\
-        00000000-00+0\
-        00-0-00000+00\
-        000000000-+00\
-        0000+000000+0\
-        00000+00+0000\
-        0+000+000+000\
-        0000000+0000+\
-        000000-000000\
-        0000000-00000\
-        +000000000000\
-        -000000000000\
-        0--0000000000\
-        0+000000-0++0\
-        00+00000+-000\
-        00+0+00000-00\
-        000000000000+\
-        0000-00000+00\
-        00-0000000+00",
-        13 * (way % 24) as usize,
+        b"0++0000000000>\
+        00+-000000000>\
+        0000+000-00+00\
+        0+000000-+000+\
+        0+00-00000+000\
+        00000000-+0000\
+        00000000-00+00\
+        00-0-00000+00<\
+        000000000-+000\
+        0000+000000+00\
+        00000+00+00000\
+        0+000+000+0000\
+        0000000+0000+0\
+        000000-0000000\
+        0000000-000000\
+        +0000000000000\
+        -0000000000000\
+        0--0000000000<\
+        0+000000-0++00\
+        00+00000+-000>\
+        00+0+00000-00>\
+        000000000000+0\
+        0000-00000+000\
+        00-0000000+00<\
+        0++00000000000\
+        0--00000000000\
+        00+-0000000000",
+        14 * (way % 27) as usize,
     )
 }
 
 fn several(s: State, seed: u32) -> State {
-    let way = draw::upto(seed, 80, 23);
+    let way = draw::upto(seed, 80, 26);
     moved_in(s, way, draw::upto(seed, 81, 15) as usize, 1)
 }
 
@@ -95,6 +102,7 @@ fn of_full_plan(s: State) -> State {
     after.idle = 0;
     after.best = 0;
     after.stock = 0;
+    after.steps = 0;
     after
 }
 
@@ -118,19 +126,33 @@ fn round_way(which: u32) -> u32 {
     }
 }
 
-// Sums that are right only if they go round at 65,536.
+// Idle slots put behind those decided, none, all that the period has left but one, or a drawn number of them; then the sum of
+// steps alone put in a drawn way.
+fn steps_off(s: State, seed: u32) -> State {
+    let period = (forms::word(s, 0) % 65536) as u32;
+    let decided = (forms::word(s, 1) % 65536) as u32;
+    let left = if decided < period {
+        period - decided - 1
+    } else {
+        0
+    };
+    let idle = match draw::upto(seed, 84, 2) {
+        0 => 0,
+        1 => left,
+        _ => draw::upto(seed, 85, left),
+    };
+    sums::with_sum(moved_in(s, 0, 0, idle as u64), draw::upto(seed, 80, 7))
+}
+
+// Sums that are right only if they go round at 65,536; the sum of steps fits the idle slots.
 fn round(s: State, seed: u32) -> State {
     let which = draw::upto(seed, 80, 6);
     let domain = draw::upto(seed, 81, 15) as usize;
     if which == 6 {
         of_full_plan(s)
     } else {
-        moved_in(
-            s,
-            round_way(which),
-            domain,
-            round_by(s, which, domain, seed),
-        )
+        let by = round_by(s, which, domain, seed);
+        sums::with_sum(moved_in(s, round_way(which), domain, by), sums::LEAST)
     }
 }
 
@@ -204,13 +226,14 @@ fn long_run(s: State, seed: u32) -> State {
     }
 }
 
-// The changed state of a step, for the kinds 15 to 19.
+// The changed state of a step, for the kinds 15 to 20.
 pub fn changed(s: State, kind: u32, seed: u32) -> State {
     match kind {
         15 => one_off(s, seed),
         16 => several(s, seed),
         17 => round(s, seed),
         18 => any_state(s, seed),
-        _ => long_run(s, seed),
+        19 => long_run(s, seed),
+        _ => steps_off(s, seed),
     }
 }

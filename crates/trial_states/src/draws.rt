@@ -22,6 +22,9 @@ fn domain_from(p: Plan, start: u32, planned: bool) -> usize {
 
 // The offer of a planned domain, or of best effort. Some domains offer in every slot of a run, so that they keep asking.
 fn offer(s: State, style: Style, run: u32, seed: u32, n: u32) -> u8 {
+    if style.offers == 0 {
+        return 0;
+    }
     let row = (n % 17) as usize;
     let full = forms::word(s, 9 * row + 8) == forms::word(s, 9 * row + 3);
     let writes = draw::upto(seed, std::num::wrapping_add_u32(n, 20), 15) < style.writebacks;

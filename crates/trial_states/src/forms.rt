@@ -23,6 +23,7 @@ fn first_word(s: State, k: usize) -> u64 {
         4 => wide(s.best),
         5 => wide(s.stock),
         6 => s.turn as u64,
+        7 => s.steps as u64,
         _ => 0,
     }
 }
@@ -56,6 +57,7 @@ pub fn count_word(c: Counts, k: usize) -> u64 {
     match what(k) {
         3 => wide(c.idle),
         4 => wide(c.best),
+        7 => c.steps as u64,
         14 => wide(c.reserved[i]),
         15 => wide(c.reclaimed[i]),
         16 => wide(c.yielded[i]),
@@ -77,6 +79,7 @@ fn with_first_word(s: State, k: usize, value: u64) -> State {
         4 => after.best = x,
         5 => after.stock = x,
         6 => after.turn = value as usize,
+        7 => after.steps = (value % 4294967296) as u32,
         _ => (),
     }
     after

@@ -4,3 +4,4 @@ pub mod changes;
 pub mod draws;
 pub mod forms;
 pub mod styles;
+pub mod sums;

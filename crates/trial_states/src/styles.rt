@@ -1,7 +1,7 @@
 // How each kind of run goes: its plans, its length, and how often there are offers, writebacks, yields and faults.
 use trial_kit::styles;
 
-// Weights are out of 16. Faults above 16 are two at once.
+// Weights are out of 16. Offers of weight 0 are none at all, faults above 16 two at once.
 pub struct Style {
     pub plans: u32,
     pub runs: u32,
@@ -32,7 +32,7 @@ fn styled(
     }
 }
 
-// Kinds 0 and 1 are openings, 2 to 14 runs, 15 to 19 runs at whose every step a changed state is tried too.
+// Kinds 0 and 1 are openings, 2 to 14 and 21 runs, 15 to 20 runs at whose every step a changed state is tried too.
 pub fn of_kind(kind: u32) -> Style {
     match kind {
         0 => styled(styles::ACCEPTED, 1500, 0, 0, 0, 0, 0),
@@ -54,6 +54,8 @@ pub fn of_kind(kind: u32) -> Style {
         16 => styled(styles::LEAST, 300, 60, 9, 6, 3, 0),
         17 => styled(styles::LEAST, 150, 60, 9, 6, 3, 1),
         18 => styled(styles::LEAST, 60, 60, 9, 6, 3, 1),
-        _ => styled(styles::LEAST, 150, 40, 9, 5, 2, 2),
+        19 => styled(styles::LEAST, 150, 40, 9, 5, 2, 2),
+        20 => styled(styles::ACCEPTED, 150, 60, 9, 6, 3, 0),
+        _ => styled(styles::MOST, 1, 4100, 0, 0, 0, 0),
     }
 }

@@ -6,10 +6,10 @@ use Rattle.trial_states.proofs.changes.moved.Statement.{statement}
 use Rattle.trial_states.proofs.changes.moved.Tie as tie
 
 abbrev Inv-loop : tie.InvT-loop
-Inv-loop domain by rows from after₀ column₀ after column = column ≤ 13
+Inv-loop domain by rows from after₀ column₀ after column = column ≤ 14
 
 abbrev μ-loop : tie.MeasureT-loop
-μ-loop domain by rows from after₀ column₀ after column = 13 - column
+μ-loop domain by rows from after₀ column₀ after column = 14 - column
 
 pub moved-spec : {M : Type 1} → statement M
 moved-spec =
