@@ -15,7 +15,7 @@ pub(crate) fn next_number(n: usize) -> usize
 }
 
 // The number that is granted, or 17, and how many were asked and passed by before it.
-pub struct Picked {
+pub(crate) struct Picked {
     pub number: usize,
     pub steps: u32,
 }
