@@ -1,5 +1,5 @@
 // The sum of steps of a state, put at its bounds and off them. Ways 0 to 3 are the least, one less, the most and one more; the
-// others 0, all 32 bits, 65,536 more than the sum is, and its sign turned.
+// others 0, all 32 bits, 65,536 more than the sum is, and 0 less the sum; both go round.
 use super::forms;
 use regulator::State;
 

@@ -94,12 +94,13 @@ module _ (s : State) (steps : ℕ) where
   unfolding ended
   ended-complete h = hit _ _ _ (eq-eqb (s .decided) (s .plan .period) h)
 
-  pub ended-taken : ended s steps .refused ≡ 0
-  ended-taken = go (ℕ-discrete (s .decided) (s .plan .period))
+  -- either way it is not refused, and tells its steps
+  pub ended-told : (ended s steps .refused ≡ 0) × (ended s steps .steps ≡ steps)
+  ended-told = go (ℕ-discrete (s .decided) (s .plan .period))
     where
-      go : Dec (s .decided ≡ s .plan .period) → ended s steps .refused ≡ 0
-      go (yes q) = ap (λ (a : Answer). a .refused) (ended-complete q)
-      go (no q) = ap (λ (a : Answer). a .refused) (ended-open q)
+      go : Dec (s .decided ≡ s .plan .period) → (ended s steps .refused ≡ 0) × (ended s steps .steps ≡ steps)
+      go (yes q) = (ap (λ (a : Answer). a .refused) (ended-complete q), ap (λ (a : Answer). a .steps) (ended-complete q))
+      go (no q) = (ap (λ (a : Answer). a .refused) (ended-open q), ap (λ (a : Answer). a .steps) (ended-open q))
 
 -- a slot call that is refused, and one that is not
 module _ (s : State) (o : List ℕ) where
@@ -115,8 +116,11 @@ module _ (s : State) (o : List ℕ) where
   slot-number room = go (ℕ-discrete (slotRefusal s o room) 0)
     where
       go : Dec (slotRefusal s o room ≡ 0) → slotOf s o room .refused ≡ slotRefusal s o room
-      go (yes q) = ap (λ (a : Answer). a .refused) (slot-decided room q) ∙ ended-taken _ _ ∙ sym q
+      go (yes q) = ap (λ (a : Answer). a .refused) (slot-decided room q) ∙ ended-told _ _ .0 ∙ sym q
       go (no q) = ap (λ (a : Answer). a .refused) (slot-refused room q)
+
+  pub steps-told : (room : ℕ) → slotRefusal s o room ≡ 0 → slotOf s o room .steps ≡ stepsOf s o
+  steps-told room h = ap (λ (a : Answer). a .steps) (slot-decided room h) ∙ ended-told _ _ .1
 
   pub shown-refused : (b : List ℕ) → slotRefusal s o (length b) ≢ 0 → verdictsIn s o b ≡ b
   unfolding verdictsIn
@@ -125,17 +129,6 @@ module _ (s : State) (o : List ℕ) where
   pub shown-decided : (b : List ℕ) → slotRefusal s o (length b) ≡ 0 → verdictsIn s o b ≡ verdicts s o
   unfolding verdictsIn
   shown-decided b h = hit _ _ _ (eq-eqb (slotRefusal s o (length b)) 0 h)
-
--- a decided slot tells its steps
-ended-steps : (s : State) (steps : ℕ) → ended s steps .steps ≡ steps
-ended-steps s steps = go (ℕ-discrete (s .decided) (s .plan .period))
-  where
-    go : Dec (s .decided ≡ s .plan .period) → ended s steps .steps ≡ steps
-    go (yes q) = ap (λ (a : Answer). a .steps) (ended-complete s steps q)
-    go (no q) = ap (λ (a : Answer). a .steps) (ended-open s steps q)
-
-pub steps-told : (s : State) (o : List ℕ) (room : ℕ) → slotRefusal s o room ≡ 0 → slotOf s o room .steps ≡ stepsOf s o
-steps-told s o room h = ap (λ (a : Answer). a .steps) (slot-decided s o room h) ∙ ended-steps _ _
 
 -- a yield that is refused, and one that is not
 module _ (s : State) (d k : ℕ) where

@@ -49,8 +49,8 @@ ruling-not-one false false false false true b e = omega arith
 ruling-not-one false false false false false true e = omega arith
 ruling-not-one false false false false false false e = omega arith
 
--- the steps where number n is granted, or none at 17
-pub record Stepped (n k : ℕ) : Type 0 where
+-- so many steps are there where number n is granted, or none at 17
+pub record StepsFit (n k : ℕ) : Type 0 where
   pub none : n ≡ 17 → k ≡ 17
   pub some : n ≢ 17 → k ≤ 16
 
@@ -160,8 +160,8 @@ module _ (s : State) (o : List ℕ) where
     unfolding granted stepsOf
     steps-distance = passed-distance (passes s o) (s .turn) h
 
-    pub stepped : Stepped (granted s o) (stepsOf s o)
-    stepped =
+    pub steps-fit : StepsFit (granted s o) (stepsOf s o)
+    steps-fit =
         record {
           none = λ e. steps-distance ∙ hit _ _ _ (eq-eqb _ 17 e);
           some = λ e. omega (arith, steps-distance ∙ miss _ _ _ (ne-eqb _ 17 e));
@@ -171,8 +171,8 @@ module _ (s : State) (o : List ℕ) where
     steps-most = go (ℕ-discrete (granted s o) 17)
       where
         go : Dec (granted s o ≡ 17) → stepsOf s o ≤ 17
-        go (yes e) = omega (arith, stepped .none e)
-        go (no e) = omega (arith, stepped .some e)
+        go (yes e) = omega (arith, steps-fit .none e)
+        go (no e) = omega (arith, steps-fit .some e)
 
     pub granted-to : Granted (granted s o)
     unfolding granted

@@ -54,7 +54,7 @@ go-on-requires c κs =
       most t,
       (
         omega (arith, same .0, e, sound a .below, b .plan .small),
-        omega (arith, same .2, f, t .tell-verdicts .ensures .1 .0, steps-most s o (b .turn), b .most, b .spent, sound a .below, b .plan .small),
+        omega (arith, same .2, f, t .tell-verdicts .ensures .1 .0, steps-most s o (b .turn), b .steps .high, b .spent, sound a .below, b .plan .small),
       ),
     )
 
