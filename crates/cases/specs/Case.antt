@@ -13,23 +13,26 @@ use Rattle.plan.specs.declared.chain.Sums.{Sums}
 use Rattle.plan.specs.declared.reading.Reading.{Reading}
 use Rattle.plan.specs.declared.writing.Writing.{Writing}
 use Rattle.regulator.specs.Verdict.{loose}
-use Rattle.regulator.specs.Calls.{openPlan}
+use Rattle.regulator.specs.Calls.{openPlan, handOf}
 use Rattle.regulator.specs.declared.state.State.{State}
 use Rattle.regulator.specs.declared.close.Counts.{Counts}
+use Rattle.regulator.specs.declared.calls.Handing.{Handing}
 use Rattle.script.specs.Line.{Meaning, meaningOf, offersIn}
 use Rattle.script.specs.Replay.{replayText}
 use Rattle.share.specs.Call.{Call}
 use Rattle.share.specs.Run.{Made, made, run}
 
 -- An input: a plan file that is read; a plan file whose sums are told; a plan value that is written to a lent buffer; a plan file whose
--- plan is opened, and calls from there on; a call on a state that is given; a script line that is read, with a lent buffer; or a plan
--- file and a script of the replay.
+-- plan is opened, and calls from there on; the same, to see the states that they return; a call on a state that is given; a plan handed
+-- in on such a state; a script line that is read, with a lent buffer; or a plan file and a script of the replay.
 pub data Input : Type 0 where
   file : (bytes : List ℕ) → Input
   summed : (bytes : List ℕ) → Input
   value : Plan → (buffer : List ℕ) → Input
   calls : (bytes : List ℕ) → List Call → Input
+  through : (bytes : List ℕ) → List Call → Input
   given : State → Call → Input
+  handed : State → Plan → Input
   line : (bytes buffer : List ℕ) → Input
   replayed : (bytes script : List ℕ) → Input
 
@@ -44,12 +47,15 @@ pub record Shown : Type 0 where
   pub steps : ℕ
 
 -- An outcome: what reading answers; the sums told; what writing answers, and the buffer; 0 or the number of a refusal of opening, and
--- what is shown of each call; what a line means, and the buffer; or all that is printed.
+-- what is shown of each call, or its refusal and the whole state that it returns; what handing in answers; what a line means, and the
+-- buffer; or all that is printed.
 pub data Outcome : Type 0 where
   reading : Reading → Outcome
   sums : Sums → Outcome
   writing : Writing → (buffer : List ℕ) → Outcome
   answers : (refused : ℕ) → List Shown → Outcome
+  returns : (refused : ℕ) → List (ℕ × State) → Outcome
+  hands : Handing → Outcome
   meaning : Meaning → (buffer : List ℕ) → Outcome
   prints : List ℕ → Outcome
 
@@ -65,7 +71,11 @@ outcomeOf (value p buffer) = writing (writePlan p (length buffer)) (written p bu
 outcomeOf (calls bytes cs) =
     let o = openPlan (readPlan bytes .plan) in
     answers (o .refused) (map (λ (m : Made). shownOf m) (run (o .state) cs))
+outcomeOf (through bytes cs) =
+    let o = openPlan (readPlan bytes .plan) in
+    returns (o .refused) (map (λ (m : Made). (m .refused, m .state)) (run (o .state) cs))
 outcomeOf (given s c) = answers 0 (shownOf (made s c) ∷ [])
+outcomeOf (handed s p) = hands (handOf s p)
 outcomeOf (line bytes buffer) = meaning (meaningOf bytes) (offersIn bytes buffer)
 outcomeOf (replayed bytes script) = prints (replayText bytes script)
 

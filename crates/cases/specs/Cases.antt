@@ -5,19 +5,22 @@ use Prim.Native.Nat.{ℕ, _+_, _*_}
 use mathlib.Core.Path.{_≡_}
 use mathlib.Core.List.{List, [], _∷_, _++_, map}
 use mathlib.Core.Bool.{true, false}
-use mathlib.Core.Option.{none, some}
+use mathlib.Core.Option.{Option, none, some}
 use lib.ListN.{replicate}
 use lib.IntN.{ℤ, pos, negsuc}
 use Rattle.table.specs.Ranges.{valuesBelow}
 use Rattle.plan.specs.Reading.{refusedReading, acceptedReading}
 use Rattle.plan.specs.Writing.{recordsFrom, refusedWriting}
 use Rattle.plan.specs.declared.value.Plan.{Plan}
+use Rattle.regulator.specs.State.{noneWaiting}
 use Rattle.regulator.specs.declared.state.State.{State}
+use Rattle.regulator.specs.declared.state.Waiting.{Waiting}
 use Rattle.regulator.specs.declared.close.Counts.{Counts}
+use Rattle.regulator.specs.declared.calls.Handing.{Handing}
 use Rattle.script.specs.Line.{slotLine, yieldLine, badLine}
 use Rattle.script.specs.Text.{bytes}
-use Rattle.share.specs.Call.{Call, slot, yield}
-use Rattle.cases.specs.Case.{file, summed, value, calls, given, line, replayed, Shown, Outcome, reading, sums, writing, answers, meaning, prints, outcomeOf, Case}
+use Rattle.share.specs.Call.{Call, slot, yield, handIn}
+use Rattle.cases.specs.Case.{file, summed, value, calls, through, given, handed, line, replayed, Shown, Outcome, reading, sums, writing, answers, returns, hands, meaning, prints, outcomeOf, Case}
 
 -- the bytes of record 0 and of a domain record, "each record filled with zeros"; `byte3` is 0 in a good one
 abbrev head : ℕ → ℕ → List ℕ
@@ -100,17 +103,18 @@ offer a b c = slot (three a b c) nines
 abbrev told : ℕ → ℕ → ℕ → ℕ → ℤ → ℕ → Shown
 told a b c idle loose steps = record { refused = 0; verdicts = three a b c; idle = idle; loose = loose; counts = none; steps = steps }
 
--- a slot that completes a period of plan A: the verdicts, the counts and the steps; loose of the next period starts at 4 − 3
+-- a slot that completes a period of plan A: the verdicts, the counts and the steps; loose of the next period starts at 4 − 3, under
+-- plan B at 3 − 2
 abbrev completes : ℕ → ℕ → ℕ → Counts → ℕ → Shown
 completes a b c counts steps = record { refused = 0; verdicts = three a b c; idle = 0; loose = pos 1; counts = some counts; steps = steps }
 
--- a call on the fresh plan A that is refused, and what its lent buffer holds; loose stays 4 − 3
-abbrev refusedCall : ℕ → List ℕ → Shown
-refusedCall n buffer = record { refused = n; verdicts = buffer; idle = 0; loose = pos 1; counts = none; steps = 0 }
+-- a call before any idle slot that decides none: 0 or a refusal, what the lent buffer holds, and loose
+abbrev undecided : ℕ → List ℕ → ℤ → Shown
+undecided n buffer loose = record { refused = n; verdicts = buffer; idle = 0; loose = loose; counts = none; steps = 0 }
 
--- a yield before any idle slot: 0 or a refusal, and loose
+-- a yield or a plan handed in
 abbrev yields : ℕ → ℤ → Shown
-yields n loose = record { refused = n; verdicts = []; idle = 0; loose = loose; counts = none; steps = 0 }
+yields n loose = undecided n [] loose
 
 -- counts without idle slots and writebacks: best effort, then reserved, reclaimed and yielded of domain 1, and the sum of steps; domain 2
 -- has `2:1+0-0w0`
@@ -156,11 +160,107 @@ summing steps =
       yielded = replicate 16 0;
       writebacks = replicate 16 0;
       steps = steps;
+      waiting = noneWaiting;
     }
 
 -- a yield of 1 by domain 1 there: 0, or 30 and nothing moves
 abbrev yieldsThere : ℕ → ℤ → Outcome
 yieldsThere n loose = answers 0 (record { refused = n; verdicts = []; idle = 2; loose = loose; counts = none; steps = 0 } ∷ [])
+
+-- sixteen numbers, of which those of domains 1, 2 and 3 are given
+abbrev domains : ℕ → ℕ → ℕ → List ℕ
+domains a b c = a ∷ b ∷ c ∷ replicate 13 0
+
+-- a plan of domains 1 and 3: P 3, the R of domain 3 is 1, all else but Q is 0; plan B has Q 1 and 1
+abbrev secondPass : ℕ → ℕ → Plan
+secondPass Q1 Q3 =
+    record {
+      period = 3;
+      planned = true ∷ false ∷ true ∷ replicate 13 false;
+      reservation = domains Q1 0 Q3;
+      reclaimcap = domains 0 0 1;
+      writebackcap = replicate 16 0;
+    }
+
+abbrev planB : Plan
+planB = secondPass 1 1
+
+abbrev awaiting : Plan → Waiting
+awaiting p = record { given = true; plan = p }
+
+-- a state without idle slots, yields and writebacks
+abbrev stateOf : Plan → (decided closed best turn : ℕ) → (claim reserved : List ℕ) → (steps : ℕ) → Waiting → State
+stateOf p decided closed best turn claim reserved steps waiting =
+    record {
+      plan = p;
+      decided = decided;
+      closed = closed;
+      idle = 0;
+      best = best;
+      stock = 0;
+      turn = turn;
+      claim = claim;
+      reserved = reserved;
+      reclaimed = replicate 16 0;
+      yielded = replicate 16 0;
+      writebacks = replicate 16 0;
+      steps = steps;
+      waiting = waiting;
+    }
+
+-- plan A in its first period, after a slot or more, the first of them best effort's
+abbrev inA : (decided turn : ℕ) → (claim reserved : List ℕ) → Waiting → State
+inA decided turn claim reserved waiting = stateOf (valueOf 4 2) decided 0 1 turn claim reserved 0 waiting
+
+-- plan A where a period begins
+abbrev startA : (closed : ℕ) → Waiting → State
+startA closed waiting = stateOf (valueOf 4 2) 0 closed 0 0 (domains 2 1 0) (domains 0 0 0) 0 waiting
+
+-- what handing in a plan answers
+abbrev answering : ℕ → ℕ → State → Handing
+answering n place s = record { refused = n; place = place; state = s }
+
+-- a slot in which 0, 1 and 3 make these offers
+abbrev offer3 : ℕ → ℕ → ℕ → Call
+offer3 a b d = slot (a ∷ b ∷ 0 ∷ d ∷ replicate 13 0) nines
+
+-- such a slot under plan B: the verdicts of 0, 1 and 3, loose, the counts told and the steps
+abbrev told3 : ℕ → ℕ → ℕ → ℤ → Option Counts → ℕ → Shown
+told3 a b d loose counts steps =
+    record { refused = 0; verdicts = a ∷ b ∷ 0 ∷ d ∷ replicate 13 0; idle = 0; loose = loose; counts = counts; steps = steps }
+
+-- the counts of a period of plan B in which best effort, domain 1 and domain 3 pass once
+abbrev countsB : Counts
+countsB =
+    record {
+      idle = 0;
+      best = 1;
+      reserved = domains 1 0 1;
+      reclaimed = replicate 16 0;
+      yielded = replicate 16 0;
+      writebacks = replicate 16 0;
+      steps = 14;
+    }
+
+-- Point 1: after two slots of plan A plan B is handed in, and then one that is refused; two slots complete the period, three the next one,
+-- and one more follows. On the way domain 3 tries a slot and a yield under plan A, and domain 2 under plan B.
+abbrev pub handingIn : List Call
+handingIn =
+    offer 1 1 1
+    ∷ offer 1 1 1
+    ∷ handIn planB
+    ∷ offer3 0 0 1
+    ∷ yield 3 1
+    ∷ handIn (secondPass 2 2)
+    ∷ offer 1 1 1
+    ∷ offer 1 1 1
+    ∷ offer 0 0 1
+    ∷ yield 2 1
+    ∷ offer3 1 1 1
+    ∷ offer3 1 1 1
+    ∷ offer3 1 1 1
+    ∷ offer3 1 1 1
+    ∷ []
 
 -- "four times `s 11100000000000000`, then `y 1 1`, three times the same slot line, then `s 01000000000000000`"
 abbrev pub script : List Call
@@ -257,7 +357,7 @@ cases =
       outcome = answers 0 (told 0 1 2 0 (pos 1) 1 ∷ told 0 0 0 1 (pos 0) 17 ∷ told 0 2 1 1 (pos 0) 0 ∷ []);
     }
     -- 32 "an offer byte above 2"; 22 "k is 0"; "Nothing lent changes"
-    ∷ record { input = calls planA (offer 3 0 0 ∷ yield 1 0 ∷ []); outcome = answers 0 (refusedCall 32 nines ∷ refusedCall 22 [] ∷ []) }
+    ∷ record { input = calls planA (offer 3 0 0 ∷ yield 1 0 ∷ []); outcome = answers 0 (undecided 32 nines (pos 1) ∷ yields 22 (pos 1) ∷ []) }
     -- "Writing .. touches nothing behind the last record, and answers the bytes written"; of a refusal "Nothing lent changes"
     ∷ record {
       input = value (valueOf 4 2) (replicate 50 9);
@@ -273,6 +373,76 @@ cases =
     ∷ record { input = given (summing 34) (yield 1 1); outcome = yieldsThere 0 (pos 0) }
     ∷ record { input = given (summing 50) (yield 1 1); outcome = yieldsThere 0 (pos 0) }
     ∷ record { input = given (summing 51) (yield 1 1); outcome = yieldsThere 30 (negsuc 0) }
+    -- Point 1: plan B "waits and takes force after the last slot of the open period. .. The turn is kept." 33 and 21 go by the plan in force.
+    ∷ record {
+      input = through planA handingIn;
+      outcome =
+          returns 0
+          ((0, inA 1 1 (domains 2 1 0) (domains 0 0 0) noneWaiting)
+          ∷ (0, inA 2 2 (domains 1 1 0) (domains 1 0 0) noneWaiting)
+          ∷ (0, inA 2 2 (domains 1 1 0) (domains 1 0 0) (awaiting planB))
+          ∷ (33, inA 2 2 (domains 1 1 0) (domains 1 0 0) (awaiting planB))
+          ∷ (21, inA 2 2 (domains 1 1 0) (domains 1 0 0) (awaiting planB))
+          ∷ (10, inA 2 2 (domains 1 1 0) (domains 1 0 0) (awaiting planB))
+          ∷ (0, inA 3 3 (domains 1 0 0) (domains 1 1 0) (awaiting planB))
+          ∷ (0, stateOf planB 0 1 0 2 (domains 1 0 1) (domains 0 0 0) 0 noneWaiting)
+          ∷ (33, stateOf planB 0 1 0 2 (domains 1 0 1) (domains 0 0 0) 0 noneWaiting)
+          ∷ (21, stateOf planB 0 1 0 2 (domains 1 0 1) (domains 0 0 0) 0 noneWaiting)
+          ∷ (0, stateOf planB 1 1 0 4 (domains 1 0 0) (domains 0 0 1) 1 noneWaiting)
+          ∷ (0, stateOf planB 2 1 1 1 (domains 1 0 0) (domains 0 0 1) 14 noneWaiting)
+          ∷ (0, stateOf planB 0 2 0 2 (domains 1 0 1) (domains 0 0 0) 0 noneWaiting)
+          ∷ (0, stateOf planB 1 2 0 4 (domains 1 0 0) (domains 0 0 1) 1 noneWaiting)
+          ∷ []);
+    }
+    -- its verdicts and counts: those of the old plan are told by the slot that completes the period
+    ∷ record {
+      input = calls planA handingIn;
+      outcome =
+          answers 0
+          (told 1 2 2 0 (pos 0) 0
+          ∷ told 6 1 2 0 (pos 0) 0
+          ∷ yields 0 (pos 0)
+          ∷ undecided 33 nines (pos 0)
+          ∷ yields 21 (pos 0)
+          ∷ yields 10 (pos 0)
+          ∷ told 6 2 1 0 (pos 0) 0
+          ∷ completes 6 1 4 (countsWith 1 2 0 0 15) 15
+          ∷ undecided 33 nines (pos 1)
+          ∷ yields 21 (pos 1)
+          ∷ told3 2 2 1 (pos 1) none 1
+          ∷ told3 1 2 5 (pos 0) none 13
+          ∷ told3 6 1 5 (pos 1) (some countsB) 0
+          ∷ told3 2 2 1 (pos 1) none 1
+          ∷ []);
+    }
+    -- "A later one replaces the waiting one"; a plan handed in before the first slot of a period waits for that period's end too
+    ∷ record {
+      input = through planA (handIn planB ∷ handIn (valueOf 4 3) ∷ replicate 4 (offer 1 1 1));
+      outcome =
+          returns 0
+          ((0, startA 0 (awaiting planB))
+          ∷ (0, startA 0 (awaiting (valueOf 4 3)))
+          ∷ (0, inA 1 1 (domains 2 1 0) (domains 0 0 0) (awaiting (valueOf 4 3)))
+          ∷ (0, inA 2 2 (domains 1 1 0) (domains 1 0 0) (awaiting (valueOf 4 3)))
+          ∷ (0, inA 3 3 (domains 1 0 0) (domains 1 1 0) (awaiting (valueOf 4 3)))
+          ∷ (0, stateOf (valueOf 4 3) 0 1 0 2 (domains 3 1 0) (domains 0 0 0) 0 noneWaiting)
+          ∷ []);
+    }
+    -- "Handing in is checked for 30, 34, then as a plan value": the first that applies is told, and the state given comes back
+    ∷ record { input = handed (startA 0 (awaiting planB)) (valueOf 4 5); outcome = hands (answering 9 1 (startA 0 (awaiting planB))) }
+    ∷ record { input = handed (startA 0 noneWaiting) (valueOf 0 2); outcome = hands (answering 2 0 (startA 0 noneWaiting)) }
+    ∷ record { input = handed (startA 4294967295 noneWaiting) (valueOf 0 2); outcome = hands (answering 34 0 (startA 4294967295 noneWaiting)) }
+    -- a state "adds up only if that plan would be accepted": here one waits that would be refused with 10
+    ∷ record {
+      input = handed (startA 4294967295 (awaiting (valueOf 4 4))) planB;
+      outcome = hands (answering 30 0 (startA 4294967295 (awaiting (valueOf 4 4))));
+    }
+    ∷ record { input = given (startA 0 (awaiting (valueOf 4 4))) (yield 1 1); outcome = answers 0 (yields 30 (pos 1) ∷ []) }
+    -- "or none": what stands beside it then is not looked at
+    ∷ record {
+      input = handed (startA 0 (record { given = false; plan = valueOf 4 4 })) planB;
+      outcome = hands (answering 0 0 (startA 0 (awaiting planB)));
+    }
     -- the script, whose fifth slot shows "The turn put back to 0 at each period": `1 0 1 1:2+0-0w0 2:1+0-0w0`, `2 0 1 1:1+1-1w0 2:1+0-0w0`;
     -- and Point 9, "document 01's run: 15, then 30"
     ∷ record {

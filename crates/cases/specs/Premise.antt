@@ -1,4 +1,5 @@
--- The premise of the exact share can be met: in document 01's script on plan A domain 1 keeps asking in both completed periods.
+-- The premise of the exact share can be met: in document 01's script on plan A domain 1 keeps asking in both completed periods; and
+-- domain 3 does in a period of a plan that was handed in.
 -- Assumes nothing.
 use Prim.Native.Nat.{ℕ}
 use mathlib.Core.Path.{_≡_}
@@ -12,7 +13,7 @@ use Rattle.share.specs.Call.{Call}
 use Rattle.share.specs.Ledger.{Period, blank, moments}
 use Rattle.share.specs.Run.{run}
 use Rattle.share.specs.Share.{KeepsAsking, feeds}
-use Rattle.cases.specs.Cases.{planA, script}
+use Rattle.cases.specs.Cases.{planA, script, handingIn}
 
 -- some element of a list has a property
 abbrev pub Some : {A : Type 0} → (A → Type 0) → List A → Type 0
@@ -32,8 +33,10 @@ pub record Met (j reservation yielded passes : ℕ) (q : Period) : Type 0 where
 abbrev pub periodsOf : Plan → List Call → List Period
 periodsOf p cs = moments (blank p) (feeds (run (openPlan p .state) cs))
 
--- in one period it yields nothing and passes 2, in the other it yields 1 and passes 1
+-- in one period it yields nothing and passes 2, in the other it yields 1 and passes 1; document 02, Point 1: "the rule speaks of the plan
+-- in force at a period's start", and plan A has no domain 3
 abbrev pub PremiseMet : Type 0
 PremiseMet =
     Some (Met 0 2 0 2) (periodsOf (readPlan planA .plan) script)
     × Some (Met 0 2 1 1) (periodsOf (readPlan planA .plan) script)
+    × Some (Met 2 1 0 1) (periodsOf (readPlan planA .plan) handingIn)

@@ -1,13 +1,12 @@
-// The calls: opening, slots and yields, for any state and any arguments.
+// The calls: opening, slots, yields and plans handed in, for any state and any arguments.
 ghost use mathlib.Core.Path.{_≡_};
 ghost use mathlib.Core.Bool.{true};
 ghost use Prim.Native.Nat.{_-_};
 ghost use lib.ListN.{length};
-ghost use Rattle.plan.specs.Value.{noDomains};
 ghost use Rattle.regulator.specs.State.{addsUp, yielding};
 ghost use Rattle.regulator.specs.Turn.{granted as grantedIn, stepsOf, verdicts as verdictsOf};
 ghost use Rattle.regulator.specs.Refusals.{slotRefusal, yieldRefusal};
-ghost use Rattle.regulator.specs.Calls.{openPlan, oneSlot, slotOf, verdictsIn, yieldOf};
+ghost use Rattle.regulator.specs.Calls.{openPlan, oneSlot, slotOf, verdictsIn, yieldOf, handOf};
 use super::close;
 use super::close::Answer;
 use super::grant;
@@ -32,17 +31,11 @@ pub struct Yielding {
     pub state: State,
 }
 
-// The plan of all zeros.
-fn no_plan() -> Plan
-    ensures { λ r. ⌜ r ≡ noDomains 0 ⌝ }
-{
-    Plan {
-        period: 0,
-        planned: [false; 16],
-        reservation: [0; 16],
-        reclaimcap: [0; 16],
-        writebackcap: [0; 16],
-    }
+// What handing in a plan answers: 0 or the number of a refusal, its place, and the state.
+pub struct Handing {
+    pub refused: u8,
+    pub place: u16,
+    pub state: State,
 }
 
 // Opens a plan.
@@ -58,7 +51,7 @@ pub fn open(p: Plan) -> Opening
             state: s,
         }
     } else {
-        let s = state::begin(no_plan(), 0, 0);
+        let s = state::begin(state::no_plan(), 0, 0);
         Opening {
             refused: c.refused,
             place: c.place,
@@ -154,6 +147,42 @@ pub fn yield_claim(s: State, domain: u64, k: u64) -> Yielding
     } else {
         Yielding {
             refused: 30,
+            state: s,
+        }
+    }
+}
+
+// A plan handed in on a state that adds up, as every state of a run does.
+pub fn run_hand_in(s: State, p: Plan) -> Handing
+    requires { ⌜ addsUp s ≡ true ⌝ }
+    ensures { λ r. ⌜ r ≡ handOf s p ⌝ }
+{
+    let told = refusals::check_hand_in(s, p);
+    if told.refused != 0 {
+        return Handing {
+            refused: told.refused,
+            place: told.place,
+            state: s,
+        };
+    }
+    let next = state::let_wait(s, p);
+    Handing {
+        refused: told.refused,
+        place: told.place,
+        state: next,
+    }
+}
+
+// Hands in a plan, which takes force when the open period ends.
+pub fn hand_in(s: State, p: Plan) -> Handing
+    ensures { λ r. ⌜ r ≡ handOf s p ⌝ }
+{
+    if state::adds_up(s) {
+        run_hand_in(s, p)
+    } else {
+        Handing {
+            refused: 30,
+            place: 0,
             state: s,
         }
     }

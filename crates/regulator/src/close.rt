@@ -1,9 +1,10 @@
 // The end of a slot: a period's counts, and the next period.
 ghost use mathlib.Core.Path.{_≡_};
 ghost use Prim.Native.Nat.{_<_};
-ghost use Rattle.regulator.specs.Close.{countsOf, withoutCounts, ended};
+ghost use Rattle.regulator.specs.Close.{countsOf, withoutCounts, nextPlan, ended};
 use super::state;
 use super::state::State;
+use plan::Plan;
 
 // The counts of a period.
 pub struct Counts {
@@ -67,6 +68,14 @@ pub(crate) fn without_counts(n: u8, s: State, steps: u32) -> Answer
     }
 }
 
+// The plan of the next period: the one that waits, or else the one in force.
+fn next_plan(s: State) -> Plan
+    ensures { λ r. ⌜ r ≡ nextPlan s ⌝ }
+{
+    let w = s.waiting;
+    if w.given { w.plan } else { s.plan }
+}
+
 // The answer of a decided slot.
 pub(crate) fn end(s: State, steps: u32) -> Answer
     requires { ⌜ s .closed < 4294967295 ⌝ }
@@ -75,7 +84,7 @@ pub(crate) fn end(s: State, steps: u32) -> Answer
     let p = s.plan;
     if s.decided == p.period {
         let all = counts_of(s);
-        let next = state::begin(p, s.closed + 1, s.turn);
+        let next = state::begin(next_plan(s), s.closed + 1, s.turn);
         Answer {
             refused: 0,
             state: next,

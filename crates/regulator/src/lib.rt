@@ -3,9 +3,11 @@
 // open(plan): the state that a plan starts with; or 2, 9 or 10 with its place.
 // slot(state, offers, verdicts): one slot decided, for any state, bytes and lengths; or 30, 34, 31, 32 or 33.
 // yield_claim(state, domain, k): claim moved to the stock, for any state and numbers; or 30, 34, 21, 22 or 23.
+// hand_in(state, plan): a plan that takes force when the open period ends, for any state and plan; or 30, 34, or 2, 9 or 10
+// with its place.
 //
-// run_slot and run_yield are slot and yield_claim for a caller whose state is known to add up, as every state of a run from an
-// opened plan does: they require it, and do not check it again.
+// run_slot, run_yield and run_hand_in are the same calls for a caller whose state is known to add up, as every state of a run
+// from an opened plan does: they require it, and do not check it again.
 mod calls;
 mod close;
 mod grant;
@@ -15,9 +17,12 @@ mod state;
 mod turn;
 mod verdict;
 
+pub use calls::Handing;
 pub use calls::Opening;
 pub use calls::Yielding;
+pub use calls::hand_in;
 pub use calls::open;
+pub use calls::run_hand_in;
 pub use calls::run_slot;
 pub use calls::run_yield;
 pub use calls::slot;
@@ -25,3 +30,4 @@ pub use calls::yield_claim;
 pub use close::Answer;
 pub use close::Counts;
 pub use state::State;
+pub use state::Waiting;

@@ -5,10 +5,11 @@ ghost use lib.Dec.{eqb};
 ghost use lib.ListN.{length};
 ghost use Rattle.table.specs.Ranges.{someBelow};
 ghost use Rattle.regulator.specs.State.{addsUp};
-ghost use Rattle.regulator.specs.Refusals.{aboveTwo, unplanned, offersRefusal, slotRefusal, noDomain, yieldRefusal};
+ghost use Rattle.regulator.specs.Refusals.{aboveTwo, unplanned, offersRefusal, slotRefusal, noDomain, yieldRefusal, handRefusal};
 use super::numbers;
 use super::state::State;
 use plan::Plan;
+use plan::Refusal;
 
 // Is a byte of the offers above 2?
 fn any_above_two(offers: &[u8]) -> bool
@@ -111,4 +112,18 @@ pub(crate) fn check_yield(s: State, domain: u64, k: u64) -> u8
         return 23;
     }
     0
+}
+
+// The refusal of a plan handed in on a state that adds up, or 0.
+pub(crate) fn check_hand_in(s: State, p: Plan) -> Refusal
+    requires { ⌜ addsUp s ≡ true ⌝ }
+    ensures { λ r. ⌜ r ≡ handRefusal s p ⌝ }
+{
+    if s.closed == 4294967295 {
+        return Refusal {
+            refused: 34,
+            place: 0,
+        };
+    }
+    plan::check(p)
 }

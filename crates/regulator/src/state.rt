@@ -1,15 +1,23 @@
-// The state of a period: where it begins, whether it adds up, and what a yield moves.
+// The state of a period: where it begins, whether it adds up, what a yield moves, and the plan that waits.
 ghost use mathlib.Core.Path.{_≡_};
 ghost use mathlib.Core.Bool.{_&&_};
 ghost use Prim.Native.Nat.{_+_, _-_, _<_, _≤_};
 ghost use Rattle.table.specs.Sums.{nth};
 ghost use Rattle.table.specs.Ranges.{everyBelow};
-ghost use Rattle.regulator.specs.State.{begun, numbersAddUp, domainAddsUp, sumsAddUp, stepsAddUp, addsUp, yielding};
+ghost use Rattle.plan.specs.Value.{noDomains};
+ghost use Rattle.regulator.specs.State.{begun, numbersAddUp, domainAddsUp, sumsAddUp, stepsAddUp, waitingAddsUp, addsUp, yielding, handing};
 use super::numbers;
 use plan::Plan;
 
+// The plan that waits for the end of the open period, or none: where `given` is false the plan beside it is not looked at.
+pub struct Waiting {
+    pub given: bool,
+    pub plan: Plan,
+}
+
 // The state of a period. Index n - 1 of the arrays is domain number n; decided is the number of slots decided, closed of
-// periods closed, best of best-effort passes, and steps of the numbers asked and passed by in the period.
+// periods closed, best of best-effort passes, and steps of the numbers asked and passed by in the period; plan is the one in
+// force.
 pub struct State {
     pub plan: Plan,
     pub decided: u16,
@@ -24,13 +32,28 @@ pub struct State {
     pub yielded: [u16; 16],
     pub writebacks: [u16; 16],
     pub steps: u32,
+    pub waiting: Waiting,
 }
 
-// A period begins.
+// The plan of all zeros.
+pub(crate) fn no_plan() -> Plan
+    ensures { λ r. ⌜ r ≡ noDomains 0 ⌝ }
+{
+    Plan {
+        period: 0,
+        planned: [false; 16],
+        reservation: [0; 16],
+        reclaimcap: [0; 16],
+        writebackcap: [0; 16],
+    }
+}
+
+// A period begins, and no plan waits.
 pub(crate) fn begin(p: Plan, closed: u32, turn: usize) -> State
     ensures { λ r. ⌜ r ≡ begun p closed turn ⌝ }
 {
     let claim = p.reservation;
+    let none = no_plan();
     State {
         plan: p,
         decided: 0,
@@ -45,6 +68,10 @@ pub(crate) fn begin(p: Plan, closed: u32, turn: usize) -> State
         yielded: [0; 16],
         writebacks: [0; 16],
         steps: 0,
+        waiting: Waiting {
+            given: false,
+            plan: none,
+        },
     }
 }
 
@@ -122,10 +149,23 @@ fn steps_add_up(steps: u32, idle: u16, decided: u16) -> bool
     least <= steps && steps <= most
 }
 
-fn all_six(a: bool, b: bool, c: bool, d: bool, e: bool, f: bool) -> bool
-    ensures { λ r. ⌜ r ≡ (a && (b && (c && (d && (e && f))))) ⌝ }
+// Would the waiting plan be accepted, if one waits?
+fn waiting_adds_up(w: Waiting) -> bool
+    ensures { λ b. ⌜ b ≡ waitingAddsUp w ⌝ }
 {
-    a && (b && (c && (d && (e && f))))
+    if w.given {
+        let p = w.plan;
+        let refusal = plan::check(p);
+        refusal.refused == 0
+    } else {
+        true
+    }
+}
+
+fn all_seven(a: bool, b: bool, c: bool, d: bool, e: bool, f: bool, g: bool) -> bool
+    ensures { λ r. ⌜ r ≡ (a && (b && (c && (d && (e && (f && g)))))) ⌝ }
+{
+    a && (b && (c && (d && (e && (f && g)))))
 }
 
 // Does a state add up?
@@ -148,13 +188,16 @@ pub(crate) fn adds_up(s: State) -> bool
         table::total(yielded),
     );
     let steps = steps_add_up(s.steps, s.idle, s.decided);
-    all_six(
+    let w = s.waiting;
+    let waiting = waiting_adds_up(w);
+    all_seven(
         refusal.refused == 0,
         s.decided < p.period,
         s.turn <= 16,
         domains,
         sums,
         steps,
+        waiting,
     )
 }
 
@@ -174,5 +217,18 @@ pub(crate) fn move_claim(s: State, j: usize, k: u16) -> State
     t.stock = s.stock + k;
     t.claim = less;
     t.yielded = more;
+    t
+}
+
+// A plan waits, in place of whatever waited.
+pub(crate) fn let_wait(s: State, p: Plan) -> State
+    ensures { λ r. ⌜ r ≡ handing s p ⌝ }
+{
+    let w = Waiting {
+        given: true,
+        plan: p,
+    };
+    let mut t = s;
+    t.waiting = w;
     t
 }

@@ -1,4 +1,4 @@
--- The starred cases hold of the definitions, and the premise of the exact share is met in the script, by computation.
+-- The starred cases hold of the definitions, and the premise of the exact share is met in the script and under a plan handed in, by computation.
 -- Assumes nothing.
 use mathlib.Core.Path.{refl}
 use mathlib.Core.Logic.{inl, inr}
@@ -15,13 +15,13 @@ use Rattle.plan.specs.Chain.{unlisted, linkOf, faultAt, fault, goesOn, walk, ch
 use Rattle.plan.specs.Reading.{noLength, readPlan}
 use Rattle.plan.specs.Sums.{sumsTold}
 use Rattle.plan.specs.Writing.{recordOf, recordsFrom, writePlan, written}
-use Rattle.regulator.specs.State.{numbersAddUp, domainAddsUp, addsUp}
+use Rattle.regulator.specs.State.{numbersAddUp, domainAddsUp, waitingAddsUp, addsUp}
 use Rattle.regulator.specs.Verdict.{atCap, waits, waiting, loose, blocked, ruling, rulingAt, rulingOf}
 use Rattle.regulator.specs.Turn.{after, ask, granted, passedBy, stepsOf, verdicts}
 use Rattle.regulator.specs.Grant.{domainGrant, grant}
 use Rattle.regulator.specs.Close.{ended}
-use Rattle.regulator.specs.Refusals.{offersRefusal, slotRefusal, noDomain, yieldRefusal}
-use Rattle.regulator.specs.Calls.{openPlan, oneSlot, slotOf, verdictsIn, yieldOf}
+use Rattle.regulator.specs.Refusals.{offersRefusal, slotRefusal, noDomain, yieldRefusal, handRefusal}
+use Rattle.regulator.specs.Calls.{openPlan, oneSlot, slotOf, verdictsIn, yieldOf, handOf}
 use Rattle.script.specs.Line.{isDigit, isNumber, valueFrom, before, behind, isSlot, offersOf, slotMeaning, isYield, yieldMeaning, meaningOf, offersIn}
 use Rattle.script.specs.Text.{digitsOf, decimal, header, domainText, domainsText, stepsText, periodText, openText, refusedText}
 use Rattle.script.specs.Replay.{split, carriedOut, linesText, replayText}
@@ -29,7 +29,7 @@ use Rattle.share.specs.Call.{Call}
 use Rattle.share.specs.Ledger.{Period, blank, slotEntry, enter, moments}
 use Rattle.share.specs.Run.{made, run, taken, fed}
 use Rattle.cases.specs.Case.{outcomeOf}
-use Rattle.cases.specs.Cases.{planA, script, Starred}
+use Rattle.cases.specs.Cases.{planA, script, handingIn, Starred}
 use Rattle.cases.specs.Premise.{Some, Met, periodsOf, PremiseMet}
 
 -- the element at index n of a list has a property, so some element has it
@@ -53,11 +53,13 @@ below n m h = h
 computed : Starred
     × At (Met 0 2 0 2) (readPlan planA .plan) script 4
     × At (Met 0 2 1 1) (readPlan planA .plan) script 10
-unfolding sum raised lowered has lastOf valuesBelow everyBelow someBelow lowestFrom withAll domainsTo outside above outOfRange reserved planRefusal unlisted linkOf faultAt fault goesOn walk chainOf sumsFrom noLength readPlan sumsTold recordOf recordsFrom writePlan written numbersAddUp domainAddsUp addsUp atCap waits waiting loose blocked ruling rulingAt rulingOf after ask granted passedBy stepsOf verdicts domainGrant grant ended openPlan offersRefusal slotRefusal oneSlot slotOf verdictsIn noDomain yieldRefusal yieldOf made run taken fed slotEntry enter moments outcomeOf each isDigit isNumber valueFrom before behind isSlot offersOf slotMeaning isYield yieldMeaning meaningOf offersIn digitsOf decimal header domainText domainsText stepsText periodText openText refusedText split carriedOut linesText replayText
+    × At (Met 2 1 0 1) (readPlan planA .plan) handingIn 14
+unfolding sum raised lowered has lastOf valuesBelow everyBelow someBelow lowestFrom withAll domainsTo outside above outOfRange reserved planRefusal unlisted linkOf faultAt fault goesOn walk chainOf sumsFrom noLength readPlan sumsTold recordOf recordsFrom writePlan written numbersAddUp domainAddsUp waitingAddsUp addsUp atCap waits waiting loose blocked ruling rulingAt rulingOf after ask granted passedBy stepsOf verdicts domainGrant grant ended openPlan offersRefusal slotRefusal oneSlot slotOf verdictsIn noDomain yieldRefusal yieldOf handRefusal handOf made run taken fed slotEntry enter moments outcomeOf each isDigit isNumber valueFrom before behind isSlot offersOf slotMeaning isYield yieldMeaning meaningOf offersIn digitsOf decimal header domainText domainsText stepsText periodText openText refusedText split carriedOut linesText replayText
 computed = (
   refl,
   (below 4 12 (omega arith), record { completed = refl; asking = (λ h. inl refl, (λ h. inl refl, (λ h. inl refl, (λ h. inl refl, tt)))); reserved = refl; gives = refl; takes = refl }),
   (below 10 12 (omega arith), record { completed = refl; asking = (λ h. inl refl, (λ h. inl refl, (λ h. inl refl, (λ h. inl refl, tt)))); reserved = refl; gives = refl; takes = refl }),
+  (below 14 17 (omega arith), record { completed = refl; asking = (λ h. inl refl, (λ h. inl refl, (λ h. inl refl, tt))); reserved = refl; gives = refl; takes = refl }),
 )
 
 pub starred : Starred
@@ -67,4 +69,5 @@ pub premise-met : PremiseMet
 premise-met = (
   some-period _ (readPlan planA .plan) script 4 (computed .1),
   some-period _ (readPlan planA .plan) script 10 (computed .2),
+  some-period _ (readPlan planA .plan) handingIn 14 (computed .3),
 )

@@ -12,14 +12,17 @@ use lib.ListN.{length}
 use borrow.Author.Tests.{eq-eqb, ne-eqb, lt-ltb, le-ltb}
 use Rattle.table.specs.Sums.{nth}
 use Rattle.table.proofs.Tables.{miss, hit}
-use Rattle.regulator.specs.State.{yielding}
+use Rattle.plan.specs.declared.value.Plan.{Plan}
+use Rattle.plan.specs.declared.value.Refusal.{Refusal}
+use Rattle.regulator.specs.State.{yielding, handing}
 use Rattle.regulator.specs.Turn.{granted, stepsOf, verdicts}
 use Rattle.regulator.specs.Grant.{onClaim, onStock, onNeither, domainGrant, grant, onward, decidedOf}
 use Rattle.regulator.specs.Close.{withoutCounts, withCounts, ended}
-use Rattle.regulator.specs.Refusals.{slotRefusal, yieldRefusal}
-use Rattle.regulator.specs.Calls.{oneSlot, slotOf, verdictsIn, yieldOf}
+use Rattle.regulator.specs.Refusals.{slotRefusal, yieldRefusal, handRefusal}
+use Rattle.regulator.specs.Calls.{oneSlot, slotOf, verdictsIn, yieldOf, handOf}
 use Rattle.regulator.specs.declared.state.State.{State}
 use Rattle.regulator.specs.declared.close.Answer.{Answer}
+use Rattle.regulator.specs.declared.calls.Handing.{Handing}
 
 -- the grant: of nobody, of best effort, of the domain at index j
 module _ (s : State) (o : List ℕ) where
@@ -143,3 +146,21 @@ module _ (s : State) (d k : ℕ) where
   pub yield-given : yieldRefusal s d k ≡ 0 → yieldOf s d k ≡ record { refused = 0; state = yielding s (d - 1) k }
   unfolding yieldOf
   yield-given h = λ i. record { refused = h i; state = hit _ (yielding s (d - 1) k) s (eq-eqb (yieldRefusal s d k) 0 h) i }
+
+-- what handing in tells, with a state
+abbrev pub answered : Refusal → State → Handing
+answered r s = record { refused = r .refused; place = r .place; state = s }
+
+-- a plan handed in that is refused, and one that is not
+module _ (s : State) (p : Plan) where
+  pub hand-number : handOf s p .refused ≡ handRefusal s p .refused
+  unfolding handOf
+  hand-number = refl
+
+  pub hand-refused : handRefusal s p .refused ≢ 0 → handOf s p ≡ answered (handRefusal s p) s
+  unfolding handOf
+  hand-refused h = ap (answered (handRefusal s p)) (miss _ (handing s p) s (ne-eqb (handRefusal s p .refused) 0 h))
+
+  pub hand-given : handRefusal s p .refused ≡ 0 → handOf s p ≡ answered (handRefusal s p) (handing s p)
+  unfolding handOf
+  hand-given h = ap (answered (handRefusal s p)) (hit _ (handing s p) s (eq-eqb (handRefusal s p .refused) 0 h))

@@ -16,24 +16,25 @@ use Rattle.table.proofs.Tables.{miss, hit}
 use Rattle.plan.specs.Value.{Sized, reserved, planRefusal}
 use Rattle.plan.specs.declared.value.Plan.{Plan}
 use Rattle.plan.proofs.Laws.Values.{accepted}
-use Rattle.regulator.specs.State.{begun, yielding}
+use Rattle.regulator.specs.State.{begun, yielding, handing}
 use Rattle.regulator.specs.Turn.{granted, stepsOf, verdicts}
 use Rattle.regulator.specs.Grant.{decidedOf}
-use Rattle.regulator.specs.Close.{countsOf, nextPeriod, ended}
-use Rattle.regulator.specs.Refusals.{slotRefusal, yieldRefusal}
+use Rattle.regulator.specs.Close.{countsOf, nextPlan, nextPeriod, ended}
+use Rattle.regulator.specs.Refusals.{slotRefusal, yieldRefusal, handRefusal}
 use Rattle.regulator.specs.Calls.{slotOf}
 use Rattle.regulator.specs.declared.state.State.{State}
 use Rattle.regulator.specs.declared.close.Answer.{Answer}
 use Rattle.regulator.specs.declared.calls.Yielding.{Yielding}
+use Rattle.regulator.specs.declared.calls.Handing.{Handing}
 use Rattle.regulator.proofs.Laws.Ruling.{Granted, to-none, to-best, on-claim, on-stock, granted-to, one-granted}
-use Rattle.regulator.proofs.Laws.Refusing.{yield-taken}
-use Rattle.regulator.proofs.Laws.Deciding.{decided-none, decided-best, decided-claim, decided-stock, ended-open, ended-complete, slot-refused, slot-decided, slot-number, steps-told, shown-refused, shown-decided, yield-number, yield-refused, yield-given}
-use Rattle.regulator.proofs.Laws.Keeping.{Kept, Next, slot-next, yielding-keeps, Start, next-start, begun-keeps}
-use Rattle.share.specs.Call.{Call, slot, yield}
+use Rattle.regulator.proofs.Laws.Refusing.{yield-taken, hand-taken}
+use Rattle.regulator.proofs.Laws.Deciding.{decided-none, decided-best, decided-claim, decided-stock, ended-open, ended-complete, slot-refused, slot-decided, slot-number, steps-told, shown-refused, shown-decided, yield-number, yield-refused, yield-given, hand-number, hand-refused, hand-given}
+use Rattle.regulator.proofs.Laws.Keeping.{Kept, Next, slot-next, yielding-keeps, handing-keeps, Start, next-start, begun-keeps}
+use Rattle.share.specs.Call.{Call, slot, yield, handIn, SizedCall}
 use Rattle.share.specs.Ledger.{refusedCall, decidedSlot, Page, Slot, Period, pass, passing, slotEntry, enter}
 use Rattle.share.specs.Run.{Made, lent, made, taken, fed}
 use Rattle.share.specs.Share.{PeriodShare, RefusedChangesNothing}
-use Rattle.share.proofs.Laws.Reserving.{Past, nothing, pageOf, periodOf, slotsWith, Safe, grant-safe, yield-safe, Whole, period-share}
+use Rattle.share.proofs.Laws.Reserving.{Past, nothing, pageOf, handedOf, periodOf, slotsWith, Safe, grant-safe, yield-safe, Whole, period-share}
 
 -- the entry of a slot is what the grant leaves
 entry-domain : (p : Page) (o : List ℕ) (j k : ℕ) → j < 16 → slotEntry p o (j + 1) k ≡ pass p j (ltb 0 (nth (p .claim) j)) (eqb (nth o (j + 1)) 2) k
@@ -90,7 +91,7 @@ pub open-ready : (p : Plan) → Sized p → planRefusal p .refused ≡ 0 → Rea
 open-ready p z e = begun-ready p (record { sized = z; taken = e }) 0 0 (omega arith)
 
 pub next-ready : (t : State) → Kept t → Ready (nextPeriod t) nothing
-next-ready t k = begun-ready (t .plan) (next-start t k) (t .closed + 1) (t .turn) (k .balanced .turn)
+next-ready t k = begun-ready (nextPlan t) (next-start t k) (t .closed + 1) (t .turn) (k .balanced .turn)
 
 -- A call was made on s in the midst of a period: it leaves the period open, or it completes it.
 pub data Step (s : State) (m : Past) (c : Made) : Type 0 where
@@ -138,6 +139,12 @@ refused-changes-nothing s (yield d k) h =
       buffer = refl;
       counts = refl;
     }
+refused-changes-nothing s (handIn p) h =
+    record {
+      state = ap (λ (a : Handing). a .state) (hand-refused s p (λ q. h (hand-number s p ∙ q)));
+      buffer = refl;
+      counts = refl;
+    }
 
 module _ (s : State) (m : Past) (r : Ready s m) where
   abbrev kept : Kept s
@@ -175,7 +182,7 @@ module _ (s : State) (m : Past) (r : Ready s m) where
         ap (enter (periodOf s m))
         (fed-taken (made s (slot o b)) (slot-number s o (length b) ∙ e)
         ∙ ap₂ (decidedSlot o b) (shown-decided s o b e) (steps-told s o (length b) e))
-        ∙ (λ i. record { plan = sym (after-grant .plan) i; page = entered i; slots = sym (entry .slots) i })
+        ∙ (λ i. record { plan = sym (after-grant .plan) i; page = entered i; slots = sym (entry .slots) i; handed = handedOf (sym (after-grant .waiting) i) })
       where
         entered : slotEntry (pageOf s m) o (passing (verdicts s o)) (stepsOf s o) ≡ pageOf next (entry .past)
         entered = ap (λ (n : ℕ). slotEntry (pageOf s m) o n (stepsOf s o)) (one-granted s o (kept .balanced .turn)) ∙ entry .page
@@ -223,15 +230,35 @@ module _ (s : State) (m : Past) (r : Ready s m) where
           below = r .below;
         })
 
-  pub step : (c : Call) → Step s m (made s c)
-  unfolding made
-  step (slot o b) = go (ℕ-discrete (slotRefusal s o (length b)) 0)
+  -- a plan handed in that is taken
+  module _ (p : Plan) (z : Sized p) (e : handRefusal s p .refused ≡ 0) where
+    hand-entered : enter (periodOf s m) (fed (made s (handIn p))) ≡ periodOf (handing s p) m
+    unfolding made taken enter
+    hand-entered = ap (enter (periodOf s m)) (fed-taken (made s (handIn p)) (hand-number s p ∙ e))
+
+    step-hand : Step s m (made s (handIn p))
+    unfolding made
+    step-hand =
+        goes-on (handing s p) m hand-entered (ap (λ (a : Handing). a .state) (hand-given s p e)) refl
+        (record {
+          whole = record { kept = handing-keeps s kept p z (hand-taken s p e); safe = r .whole .safe };
+          below = r .below;
+        })
+
+  pub step : (c : Call) → SizedCall c → Step s m (made s c)
+  unfolding made SizedCall
+  step (slot o b) z = go (ℕ-discrete (slotRefusal s o (length b)) 0)
     where
       go : Dec (slotRefusal s o (length b) ≡ 0) → Step s m (made s (slot o b))
       go (yes q) = step-slot o b q
       go (no q) = step-refused (slot o b) (λ h. q (sym (slot-number s o (length b)) ∙ h))
-  step (yield d k) = go (ℕ-discrete (yieldRefusal s d k) 0)
+  step (yield d k) z = go (ℕ-discrete (yieldRefusal s d k) 0)
     where
       go : Dec (yieldRefusal s d k ≡ 0) → Step s m (made s (yield d k))
       go (yes q) = step-yield d k q
       go (no q) = step-refused (yield d k) (λ h. q (sym (yield-number s d k) ∙ h))
+  step (handIn p) z = go (ℕ-discrete (handRefusal s p .refused) 0)
+    where
+      go : Dec (handRefusal s p .refused ≡ 0) → Step s m (made s (handIn p))
+      go (yes q) = step-hand p z q
+      go (no q) = step-refused (handIn p) (λ h. q (sym (hand-number s p) ∙ h))

@@ -25,6 +25,7 @@ shaped c =
       reclaimed = search needs;
       yielded = search needs;
       writebacks = search needs;
+      waiting = record { planned = search needs; reservation = search needs; reclaimcap = search needs; writebackcap = search needs };
     }
 
 index : (c : tie.Start) → c .args .domain - 1 < 16

@@ -9,6 +9,9 @@ use Rattle.regulator.proofs.close.end.Tie as tie
 counts-of-requires : tie.Need-counts-of-requires
 counts-of-requires c κs = search needs
 
+next-plan-requires : tie.Need-next-plan-requires
+next-plan-requires c κs = search needs
+
 add-begin : tie.Need-add-begin
 add-begin c = search needs
 
@@ -20,7 +23,9 @@ without-counts-requires c κs = search needs
 
 returns : tie.Need-returns
 unfolding ended
-returns c = rw (eq-eqb _ _ (c .before .before .before .if1 .taken), c .begin .ensures, c .before .before .counts-of .ensures)
+returns c =
+    let n = c .before .before in
+    rw (eq-eqb _ _ (n .before .before .if1 .taken), c .begin .ensures, n .next-plan .ensures, n .before .counts-of .ensures)
 
 returns-2 : tie.Need-returns-2
 unfolding ended
@@ -31,6 +36,7 @@ end-spec =
     tie.close
     (tie.spec
     counts-of-requires
+    next-plan-requires
     add-begin
     begin-requires
     without-counts-requires

@@ -1,4 +1,4 @@
--- `regulator::state::adds_up` meets its contract: what its callees tell, put into the six tests.
+-- `regulator::state::adds_up` meets its contract: what its callees tell, put into the seven tests.
 -- Assumes nothing.
 use Rattle.regulator.specs.State.{addsUp}
 use borrow.Author.Needs.{needs}
@@ -26,13 +26,17 @@ sums-add-up-requires c κs = search needs
 steps-add-up-requires : tie.Need-steps-add-up-requires
 steps-add-up-requires c κs = search needs
 
-all-six-requires : tie.Need-all-six-requires
-all-six-requires c κs = search needs
+waiting-adds-up-requires : tie.Need-waiting-adds-up-requires
+waiting-adds-up-requires c κs = search needs
+
+all-seven-requires : tie.Need-all-seven-requires
+all-seven-requires c κs = search needs
 
 returns : tie.Need-returns
 unfolding addsUp
 returns c =
-    let steps = c .before .before .before .before .before in
+    let waiting = c .before .before .before .before .before in
+    let steps = waiting .before .before in
     let b = steps .before in
     let d = b .before .before .before .before in
     let total = b .before .before .before .total .ensures .0 in
@@ -46,7 +50,8 @@ returns c =
       total2,
       total3,
       steps .steps-add-up .ensures,
-    ) at (c .all-six .ensures)
+      waiting .waiting-adds-up .ensures,
+    ) at (c .all-seven .ensures)
 
 pub adds-up-spec : {M : Type 1} → statement M
 adds-up-spec =
@@ -59,5 +64,6 @@ adds-up-spec =
     total-requires-3
     sums-add-up-requires
     steps-add-up-requires
-    all-six-requires
+    waiting-adds-up-requires
+    all-seven-requires
     returns)

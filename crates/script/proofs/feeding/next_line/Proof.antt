@@ -6,6 +6,7 @@ use denote.Ref.{now}
 use Prim.Native.Nat.{_+_, _<_}
 use native.Mathlib.Omega.{arith}
 use lib.ListN.{length}
+use Rattle.plan.specs.Value.{Sized}
 use Rattle.regulator.specs.State.{Shaped}
 use Rattle.script.specs.Line.{before}
 use Rattle.script.specs.Feeding.{Sound, lacksRoom, Fed}
@@ -34,6 +35,12 @@ free c = search needs
 few : (c : tie.Start) → c .args .r .state .closed < 4294967296
 few c = search needs
 
+-- the facts of the waiting plan lie deeper in the run's than `search` goes by itself
+waiting : (c : tie.Start) → Sized (c .args .r .state .waiting .plan)
+waiting c =
+    let deep = c .good .0 .1 .1 .0 .1 .1 .1 .1 .1 .1 .1 .1 .1 .1 .1 .1 .1 .1 .1 .0 in
+    record { planned = search needs; reservation = search needs; reclaimcap = search needs; writebackcap = search needs }
+
 shape : (c : tie.Start) → Shaped (c .args .r .state)
 shape c =
     record {
@@ -43,6 +50,7 @@ shape c =
       reclaimed = search needs;
       yielded = search needs;
       writebacks = search needs;
+      waiting = waiting c;
     }
 
 sub-carry-out : tie.Need-sub-carry-out
