@@ -3,6 +3,7 @@ ghost use Prim.Native.Nat.{_<_, _≤_};
 use super::cells;
 use super::sums;
 use super::verdict;
+use super::waiting;
 
 // What a slot call tells beside verdicts and counts: its refusal, or 0, and the numbers asked before the one granted, 0 where
 // it is refused.
@@ -18,7 +19,7 @@ pub fn open(period: u32, domains: [u32; 64], s: &mut [u64]) -> model_plans::Told
     if told.number != 0 {
         return told;
     }
-    cells::put_plan(s, period, domains);
+    cells::put_plan(s, 0, period, domains);
     cells::start_period(s);
     told
 }
@@ -157,10 +158,11 @@ fn decide(s: &mut [u64], offers: &[u8], verdicts: &mut [u8]) -> u32 {
     steps
 }
 
-// Closes a period: puts its counts, and starts the next.
+// Closes a period: puts its counts, and starts the next, of the plan that waits if there is one.
 fn close(s: &mut [u64], counts: &mut [u64]) {
     put_counts(s, counts);
     cells::add(s, 0, cells::CLOSED, 1);
+    waiting::take_force(s);
     cells::start_period(s);
 }
 
@@ -214,4 +216,22 @@ pub fn take_yield(s: &mut [u64], domain: u64, k: u64) -> u32 {
     cells::add(s, n, cells::YIELDED, k);
     cells::add(s, 0, cells::STOCK, k);
     0
+}
+
+// Takes a plan that is handed in, or tells its refusal.
+pub fn hand_in(s: &mut [u64], period: u32, domains: [u32; 64]) -> model_plans::Told {
+    let number = state_refusal(s);
+    if number != 0 {
+        return model_plans::Told {
+            number,
+            place: 0,
+            bytes: 0,
+        };
+    }
+    let told = model_plans::check(period, domains);
+    if told.number != 0 {
+        return told;
+    }
+    waiting::put_waiting(s, period, domains);
+    told
 }

@@ -1,10 +1,14 @@
-// Flat words in lent slices: seventeen rows of nine, row 0 for the period and rows 1 to 16 for the domains.
+// Flat words in lent slices, in rows of nine: row 0 for the period and rows 1 to 16 for the domains; then, in a state and in
+// the ledger's page, as many rows for the plan that waits, of which the first four columns are used.
 ghost use Prim.Native.Nat.{_<_, _≤_};
 use model_plans::words;
 
-pub const ROWS: usize = 17;
+pub const ROWS: usize = 34;
 
-pub const WORDS: usize = 153;
+// The first row of the plan that waits, and the words before it: counts have no others.
+pub const NEXT: usize = 17;
+
+pub const COUNTS: usize = 153;
 
 // The columns of row 0.
 pub const PERIOD: usize = 0;
@@ -22,6 +26,9 @@ pub const STOCK: usize = 5;
 pub const TURN: usize = 6;
 
 pub const STEPS: usize = 7;
+
+// The columns of row NEXT are PERIOD, and whether a plan waits.
+pub const WAITS: usize = 1;
 
 // The columns of a domain's row.
 pub const PRESENT: usize = 0;
@@ -96,12 +103,14 @@ pub fn total(s: &[u64], column: usize) -> u64
     sum
 }
 
-// Puts a plan's words where the state and the ledger have them: the period, and the columns up to W.
-pub fn put_plan(s: &mut [u64], period: u32, domains: [u32; 64]) {
-    put(s, 0, PERIOD, words::wider(period));
+// Puts a plan's words into the rows from one on, row 0 or NEXT: the period, and the columns up to W.
+pub fn put_plan(s: &mut [u64], from: usize, period: u32, domains: [u32; 64])
+    requires { ⌜ from ≤ 17 ⌝ }
+{
+    put(s, from, PERIOD, words::wider(period));
     let mut k: u32 = 0;
     while k < 64 {
-        let row = (k / 4 + 1) as usize;
+        let row = from + (k / 4 + 1) as usize;
         let column = (k % 4) as usize;
         put(
             s,
@@ -113,12 +122,14 @@ pub fn put_plan(s: &mut [u64], period: u32, domains: [u32; 64]) {
     }
 }
 
-// The plan's words, read back.
-pub fn plan_of(s: &[u64]) -> [u32; 64] {
+// The words of the domains of such a plan, read back.
+pub fn plan_of(s: &[u64], from: usize) -> [u32; 64]
+    requires { ⌜ from ≤ 17 ⌝ }
+{
     let mut domains = [0u32; 64];
     let mut k: usize = 0;
     while k < 64 {
-        domains[k] = get(s, k / 4 + 1, k % 4) as u32;
+        domains[k] = get(s, from + k / 4 + 1, k % 4) as u32;
         k += 1;
     }
     domains

@@ -1,11 +1,12 @@
 // The ledger of document 01: fed the plan, the calls, whether each was refused, and the verdicts and steps of a decided slot;
-// never a state.
+// never a state. It keeps the last plan handed in and not refused, and takes it when the next period begins.
 // Its page has the rows and columns of `cells`: in row 0 the period, slots decided, idle, best effort and the sum of the steps
 // fed; in a domain's row Q, R, W, claim left, passes on claim, reclaimed, yielded and writebacks, and in column 0 whether it
-// kept asking.
+// kept asking; from row NEXT on the plan kept.
 ghost use Prim.Native.Nat.{_+_, _<_, _≤_};
 use super::cells;
 use super::verdict;
+use super::waiting;
 use model_plans::words;
 
 const ASKING: usize = 0;
@@ -20,7 +21,7 @@ pub struct Entry {
 
 pub fn begin(page: &mut [u64], period: u32, domains: [u32; 64]) {
     cells::clear(page);
-    cells::put_plan(page, period, domains);
+    cells::put_plan(page, 0, period, domains);
     start_page(page);
 }
 
@@ -85,6 +86,15 @@ pub fn enter_yield(page: &mut [u64], refused: bool, domain: u64, k: u64) -> Entr
     cells::take(page, n, cells::CLAIM, k);
     cells::add(page, n, cells::YIELDED, k);
     open_entry(page, words::one_if(short))
+}
+
+// A plan handed in: the last one not refused is kept.
+pub fn enter_plan(page: &mut [u64], refused: bool, period: u32, domains: [u32; 64]) -> Entry {
+    if refused {
+        return open_entry(page, 0);
+    }
+    waiting::put_waiting(page, period, domains);
+    open_entry(page, 0)
 }
 
 // Whether a domain with claim left offers an access, or a writeback while below its writeback cap.
@@ -178,7 +188,7 @@ fn count_due(page: &[u64], k: usize, complete: bool) -> u64 {
 // Whether counts are told just where a period completes, and are the page's.
 fn counts_agree(page: &[u64], complete: bool, told: bool, counts: &[u64]) -> bool {
     let mut k: usize = 0;
-    while k < cells::WORDS {
+    while k < cells::COUNTS {
         if cells::get(counts, k / 9, k % 9) != count_due(page, k, complete) {
             return false;
         }
@@ -237,12 +247,13 @@ fn enter_decided(page: &mut [u64], offers: &[u8], verdicts: &[u8], steps: u32) -
     }
 }
 
-// The entry of a call that completes a period, and the next page.
+// The entry of a call that completes a period, and the next page, of the plan kept if there is one.
 fn closed_entry(page: &mut [u64], faults: u32) -> Entry
     requires { ⌜ faults ≤ 3 ⌝ }
 {
     let entry = open_entry(page, faults);
     let shared = settled(page);
+    waiting::take_force(page);
     start_page(page);
     Entry {
         complete: true,

@@ -1,6 +1,7 @@
 // Whether a state adds up, recomputed by plain addition.
 ghost use Prim.Native.Nat.{_<_, _≤_};
 use super::cells;
+use super::waiting;
 
 // Whether a domain's own numbers fit each other; those of an absent one, whose caps and Q are 0, are then all 0.
 fn domain_fits(s: &[u64], n: usize) -> bool {
@@ -65,8 +66,7 @@ pub fn adds_up(s: &[u64]) -> bool {
         return false;
     }
     if domains_fit(s) {
-        let told = model_plans::check(period as u32, cells::plan_of(s));
-        told.number == 0
+        waiting::plans_fit(s)
     } else {
         false
     }

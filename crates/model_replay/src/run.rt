@@ -185,7 +185,7 @@ pub fn replay(file: &[u8], script: &[u8], out: &mut [u8]) -> Ended {
         return refused_plan(out, a.number, a.place);
     }
     let domains = a.domains;
-    let mut s = [0u64; 153];
+    let mut s = [0u64; 306];
     model_calls::open(a.period, domains, &mut s);
     opened(script, &mut s, out)
 }

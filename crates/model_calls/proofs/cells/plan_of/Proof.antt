@@ -8,10 +8,10 @@ use Rattle.model_calls.proofs.cells.plan_of.Statement.{statement}
 use Rattle.model_calls.proofs.cells.plan_of.Tie as tie
 
 abbrev Inv-loop : tie.InvT-loop
-Inv-loop s domains₀ k₀ domains k = (k ≤ 64) × (length domains ≡ 64)
+Inv-loop s from domains₀ k₀ domains k = (k ≤ 64) × (length domains ≡ 64)
 
 abbrev μ-loop : tie.MeasureT-loop
-μ-loop s domains₀ k₀ domains k = 64 - k
+μ-loop s from domains₀ k₀ domains k = 64 - k
 
 pub plan-of-spec : {M : Type 1} → statement M
 plan-of-spec =
@@ -19,6 +19,7 @@ plan-of-spec =
     (tie.spec
     Inv-loop
     μ-loop
+    (λ c. search needs)
     (λ c. search needs)
     (λ c. search needs)
     (λ c κs. search needs)

@@ -8,10 +8,10 @@ use Rattle.model_calls.proofs.cells.put_plan.Statement.{statement}
 use Rattle.model_calls.proofs.cells.put_plan.Tie as tie
 
 abbrev Inv-loop : tie.InvT-loop
-Inv-loop s₀ period domains k₀ s k = (k ≤ 64) × (length s ≡ length s₀)
+Inv-loop s₀ from period domains k₀ s k = (k ≤ 64) × (length s ≡ length s₀)
 
 abbrev μ-loop : tie.MeasureT-loop
-μ-loop s₀ period domains k₀ s k = 64 - k
+μ-loop s₀ from period domains k₀ s k = 64 - k
 
 pub put-plan-spec : {M : Type 1} → statement M
 put-plan-spec =
@@ -21,6 +21,7 @@ put-plan-spec =
     μ-loop
     (λ c κs. search needs)
     (λ c κs. search needs)
+    (λ c. search needs)
     (λ c. search needs)
     (λ c. search needs)
     (λ c. search needs)
