@@ -1,42 +1,66 @@
-// One call of the library and of the model on the same state, compared; and its entry into the ledger.
+// One call of the library and of the model on the same state, compared; and its entry into the ledger. A state, with the plan at
+// hand behind it, and a slot's counts lie in lent words; what the library answers takes their place.
 use model_calls::Decision;
 use model_calls::Entry;
+use model_calls::cells;
 use plan::Plan;
 use regulator::Answer;
-use regulator::Counts;
 use regulator::State;
 use trial_kit::bytes::least;
 use trial_kit::tally::Verdict;
 use trial_kit::tally::both;
 use trial_kit::values;
+use trial_states::calls;
 use trial_states::calls::Call;
 use trial_states::forms;
 
-// What the library answered, beside the model's refusal and whether all is the same.
-pub struct Outcome {
-    pub verdict: Verdict,
-    pub refused: bool,
+// What a call told beside its state and counts.
+pub struct Told {
+    pub number: u32,
     pub place: u32,
-    pub state: State,
     pub verdicts: [u8; 18],
     pub complete: bool,
-    pub counts: Counts,
     pub steps: u32,
 }
 
-pub fn no_counts() -> Counts {
-    Counts {
-        idle: 0,
-        best: 0,
-        reserved: [0; 16],
-        reclaimed: [0; 16],
-        yielded: [0; 16],
-        writebacks: [0; 16],
+// What the library told, beside the model's refusal and whether all is the same.
+pub struct Outcome {
+    pub told: Told,
+    pub verdict: Verdict,
+}
+
+// Of a call that tells neither verdicts nor steps nor counts.
+fn refusal(number: u32, place: u32) -> Told {
+    Told {
+        number,
+        place,
+        verdicts: [0; 18],
+        complete: false,
         steps: 0,
     }
 }
 
-fn library_slot(
+pub fn same_bytes(a: [u8; 18], b: [u8; 18]) -> bool {
+    check::same(&a, &b)
+}
+
+// The outcome of a call, where its state and counts are the same or not.
+fn compared(told: Told, due: Told, same: bool) -> Outcome {
+    let mine = told.verdicts;
+    let yours = due.verdicts;
+    let refusal = both(told.number == due.number, told.place == due.place);
+    let period = both(told.complete == due.complete, told.steps == due.steps);
+    let all = both(both(refusal, period), same_bytes(mine, yours));
+    Outcome {
+        told,
+        verdict: Verdict {
+            number: due.number,
+            same: both(same, all),
+        },
+    }
+}
+
+fn library_answer(
     s: State,
     offers: &[u8],
     offered: usize,
@@ -48,7 +72,58 @@ fn library_slot(
     regulator::slot(s, &offers[0..given], &mut verdicts[0..size])
 }
 
-fn model_slot(
+fn library_slot(now: &mut [u64], counts: &mut [u64], c: Call) -> Told {
+    let mut verdicts = [c.filled; 18];
+    let offers = c.offers;
+    let s = forms::state_of(now);
+    let a = library_answer(s, &offers, c.offered, &mut verdicts, c.lent);
+    let state = a.state;
+    let period = a.counts;
+    forms::put_state(now, state);
+    forms::put_counts(counts, period);
+    Told {
+        number: a.refused as u32,
+        place: 0,
+        verdicts,
+        complete: a.complete,
+        steps: a.steps,
+    }
+}
+
+fn library_yield(now: &mut [u64], domain: u64, k: u64) -> Told {
+    let y = regulator::yield_claim(forms::state_of(now), domain, k);
+    let state = y.state;
+    forms::put_state(now, state);
+    refusal(y.refused as u32, 0)
+}
+
+fn library_handing(now: &mut [u64], p: Plan) -> Told {
+    let h = regulator::hand_in(forms::state_of(now), p);
+    let state = h.state;
+    forms::put_state(now, state);
+    refusal(h.refused as u32, values::wide(h.place))
+}
+
+fn library_opening(now: &mut [u64], p: Plan) -> Told {
+    let o = regulator::open(p);
+    let state = o.state;
+    forms::put_state(now, state);
+    refusal(o.refused as u32, values::wide(o.place))
+}
+
+fn library_call(now: &mut [u64], counts: &mut [u64], c: Call) -> Told {
+    let p = forms::plan_of(now, forms::GIVEN);
+    cells::clear(counts);
+    let what = c.what;
+    match what {
+        calls::SLOT => library_slot(now, counts, c),
+        calls::YIELD => library_yield(now, c.domain, c.k),
+        calls::HAND => library_handing(now, p),
+        _ => library_opening(now, p),
+    }
+}
+
+fn model_decision(
     s: &mut [u64],
     offers: &[u8],
     offered: usize,
@@ -61,153 +136,91 @@ fn model_slot(
     model_calls::slot(s, &offers[0..given], &mut verdicts[0..size], counts)
 }
 
-// Whether the library's state and counts are those words.
-fn same_state(s: State, words: &[u64; 153]) -> bool {
-    let mut mine = [0u64; 153];
-    forms::put_state(&mut mine, s);
-    forms::same_words(&mine, words)
-}
-
-fn same_counts(c: Counts, words: &[u64; 153]) -> bool {
-    let mut mine = [0u64; 153];
-    forms::put_counts(&mut mine, c);
-    forms::same_words(&mine, words)
-}
-
-// Whether a period more is closed than before.
-fn closes(s: State, words: &[u64]) -> bool {
-    if 2 < words.len() {
-        words[2] != forms::word(s, 2)
-    } else {
-        false
-    }
-}
-
-pub fn same_bytes(a: [u8; 18], b: [u8; 18]) -> bool {
-    check::same(&a, &b)
-}
-
-// The model on the same slot call, compared with the library's answer and verdicts.
-fn slot_verdict(s: State, c: Call, a: Answer, told: [u8; 18]) -> Verdict {
-    let mut words = [0u64; 153];
-    let mut counts = [0u64; 153];
+// A slot completes its period where one more is closed.
+fn model_slot(words: &mut [u64], counts: &mut [u64], c: Call) -> Told {
     let mut verdicts = [c.filled; 18];
-    forms::put_state(&mut words, s);
     let offers = c.offers;
-    let d = model_slot(
-        &mut words,
-        &offers,
-        c.offered,
-        &mut verdicts,
-        c.lent,
-        &mut counts,
-    );
-    let state = a.state;
-    let period = a.counts;
-    let refusal = both(
-        a.refused as u32 == d.number,
-        a.complete == closes(s, &words),
-    );
-    let values = both(same_state(state, &words), same_counts(period, &counts));
-    let numbers = both(a.steps == d.steps, same_bytes(told, verdicts));
-    Verdict {
+    let closed = forms::word(words, 2);
+    let d = model_decision(words, &offers, c.offered, &mut verdicts, c.lent, counts);
+    Told {
         number: d.number,
-        same: both(both(refusal, values), numbers),
-    }
-}
-
-fn slot_call(s: State, c: Call) -> Outcome {
-    let mut verdicts = [c.filled; 18];
-    let offers = c.offers;
-    let a = library_slot(s, &offers, c.offered, &mut verdicts, c.lent);
-    let state = a.state;
-    let counts = a.counts;
-    Outcome {
-        verdict: slot_verdict(s, c, a, verdicts),
-        refused: a.refused != 0,
         place: 0,
-        state,
         verdicts,
-        complete: a.complete,
-        counts,
-        steps: a.steps,
+        complete: forms::word(words, 2) != closed,
+        steps: d.steps,
     }
 }
 
-// The outcome of a call that tells neither verdicts nor steps nor counts.
-fn of_state(verdict: Verdict, refused: bool, place: u32, state: State) -> Outcome {
-    Outcome {
-        verdict,
-        refused,
-        place,
-        state,
-        verdicts: [0; 18],
-        complete: false,
-        counts: no_counts(),
-        steps: 0,
-    }
-}
-
-fn yield_call(s: State, c: Call) -> Outcome {
-    let mut words = [0u64; 153];
-    forms::put_state(&mut words, s);
-    let number = model_calls::take_yield(&mut words, c.domain, c.k);
-    let y = regulator::yield_claim(s, c.domain, c.k);
-    let state = y.state;
-    let same = both(y.refused as u32 == number, same_state(state, &words));
-    of_state(Verdict { number, same }, y.refused != 0, 0, state)
-}
-
-pub fn answered(s: State, c: Call) -> Outcome {
-    if c.yields {
-        yield_call(s, c)
-    } else {
-        slot_call(s, c)
-    }
-}
-
-// Opening a plan; the ledger's page begins with it.
-pub fn opened(p: Plan, page: &mut [u64]) -> Outcome {
-    let mut words = [0u64; 153];
-    let domains = values::words(p);
+fn model_plan(words: &mut [u64], p: Plan, opens: bool) -> Told {
     let period = values::wide(p.period);
-    let t = model_calls::open(period, domains, &mut words);
-    let o = regulator::open(p);
-    let state = o.state;
-    let refusal = both(
-        o.refused as u32 == t.number,
-        values::wide(o.place) == t.place,
-    );
-    model_calls::begin(page, period, domains);
-    let verdict = Verdict {
-        number: t.number,
-        same: both(refusal, same_state(state, &words)),
-    };
-    of_state(verdict, o.refused != 0, values::wide(o.place), state)
+    let domains = values::words(p);
+    if opens {
+        let o = model_calls::open(period, domains, words);
+        return refusal(o.number, o.place);
+    }
+    let h = model_calls::hand_in(words, period, domains);
+    refusal(h.number, h.place)
 }
 
-fn entered_slot(page: &mut [u64], c: Call, o: Outcome) -> Entry {
+fn model_call(words: &mut [u64], counts: &mut [u64], c: Call, p: Plan) -> Told {
+    let what = c.what;
+    match what {
+        calls::SLOT => model_slot(words, counts, c),
+        calls::YIELD => refusal(model_calls::take_yield(words, c.domain, c.k), 0),
+        _ => model_plan(words, p, c.what == calls::OPEN),
+    }
+}
+
+pub fn answered(now: &mut [u64], counts: &mut [u64], c: Call) -> Outcome {
+    let mut words = [0u64; 306];
+    let mut due = [0u64; 153];
+    let p = forms::plan_of(now, forms::GIVEN);
+    forms::copy(&mut words, now);
+    let model = model_call(&mut words, &mut due, c, p);
+    let library = library_call(now, counts, c);
+    let same = both(
+        forms::same_words(&words, now),
+        forms::same_words(&due, counts),
+    );
+    compared(library, model, same)
+}
+
+fn entered_slot(page: &mut [u64], counts: &[u64], c: Call, t: Told) -> Entry {
     let offers = c.offers;
-    let verdicts = o.verdicts;
-    let told = o.counts;
-    let mut counts = [0u64; 153];
-    forms::put_counts(&mut counts, told);
+    let verdicts = t.verdicts;
     model_calls::enter_slot(
         page,
         &offers,
-        o.refused,
+        t.number != 0,
         &verdicts,
-        o.steps,
-        o.complete,
-        &counts,
+        t.steps,
+        t.complete,
+        counts,
     )
 }
 
-// Feeds the ledger a call, whether the library refused it, and what it told.
-pub fn entered(page: &mut [u64], c: Call, o: Outcome) -> Entry {
-    if c.yields {
-        model_calls::enter_yield(page, o.refused, c.domain, c.k)
-    } else {
-        entered_slot(page, c, o)
+// A plan that is handed in; one that is opened begins the page.
+fn entered_plan(page: &mut [u64], p: Plan, opens: bool, refused: bool) -> Entry {
+    let period = values::wide(p.period);
+    let domains = values::words(p);
+    if opens {
+        model_calls::begin(page, period, domains);
+        return Entry {
+            complete: false,
+            asked: 0,
+            faults: 0,
+        };
+    }
+    model_calls::enter_plan(page, refused, period, domains)
+}
+
+// Feeds the ledger a call, the plan at hand, whether the library refused the call, and what it told.
+pub fn entered(page: &mut [u64], now: &[u64], counts: &[u64], c: Call, t: Told) -> Entry {
+    let p = forms::plan_of(now, forms::GIVEN);
+    let what = c.what;
+    match what {
+        calls::SLOT => entered_slot(page, counts, c, t),
+        calls::YIELD => model_calls::enter_yield(page, t.number != 0, c.domain, c.k),
+        _ => entered_plan(page, p, c.what == calls::OPEN, t.number != 0),
     }
 }

@@ -1,11 +1,10 @@
-// Compares the library's opening, slots and yields with the model's on stated cases and on lists of calls that are fixed by
-// seeds, holds each list against the ledger, and prints what was compared.
+// Compares the library's opening, slots, yields and handing in with the model's on stated cases and on lists of calls that are
+// fixed by seeds, holds each list against the ledger, and prints what was compared.
 use run::Case;
 use run::Run;
 use seen::Seen;
 use trial_kit::draw;
 use trial_kit::tally;
-use trial_kit::values;
 use trial_states::styles;
 
 mod both;
@@ -14,15 +13,13 @@ mod run;
 mod script;
 mod seen;
 
-const KINDS: u32 = 22;
+const KINDS: u32 = 26;
 
 fn start() -> Run {
-    let o = regulator::open(values::nothing());
-    let state = o.state;
     Run {
-        state,
         tally: tally::start(),
-        seen: Seen { counts: [0; 40] },
+        seen: Seen { counts: [0; 70] },
+        before: 0,
     }
 }
 

@@ -34,7 +34,11 @@ fn say_name(kind: u32) {
         states of drawn numbers\n\
         states at 4,294,967,294 and 4,294,967,295 closed periods\n\
         states with their sum of steps at a bound, one outside, or far off\n\
-        a run with P 4,096 and no offers\n",
+        a run with P 4,096 and no offers\n\
+        runs with plans handed in\n\
+        runs that begin with P 1, with plans handed in\n\
+        states whose waiting plan would be refused\n\
+        states beside whose flag, which is off, lies a plan that would be refused\n",
         kind as usize,
     );
 }

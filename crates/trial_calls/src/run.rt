@@ -1,25 +1,30 @@
 // A list of calls from an opened plan on, each given the state that the last one answered.
 use super::both;
 use super::both::Outcome;
+use super::both::Told;
 use super::seen;
 use super::seen::Seen;
-use regulator::State;
 use trial_kit::draw;
 use trial_kit::styles;
 use trial_kit::tally;
 use trial_kit::tally::Tally;
 use trial_kit::tally::Verdict;
+use trial_kit::values;
+use trial_states::calls;
 use trial_states::calls::Call;
 use trial_states::changes;
 use trial_states::draws;
+use trial_states::forms;
+use trial_states::handing;
+use trial_states::marks;
 use trial_states::styles::Style;
 use trial_states::sums;
 
-// The state after the calls so far, and what was compared and seen.
+// What was compared and seen so far, and the domains of the plan before the one in force, 0 where there was none.
 pub struct Run {
-    pub state: State,
     pub tally: Tally,
     pub seen: Seen,
+    pub before: u32,
 }
 
 // A case of a kind, and the number drawn for it.
@@ -27,37 +32,6 @@ pub struct Case {
     pub kind: u32,
     pub case: u32,
     pub seed: u32,
-}
-
-// The run after a call, entered into the ledger.
-pub fn entered(r: Run, page: &mut [u64], of: Case, c: Call, o: Outcome) -> Run {
-    let e = both::entered(page, c, o);
-    let v = o.verdict;
-    let verdict = Verdict {
-        number: v.number,
-        same: tally::both(v.same, e.faults == 0),
-    };
-    let before = r.tally;
-    let so_far = r.seen;
-    let state = o.state;
-    Run {
-        state,
-        tally: tally::counted(before, of.kind, of.case, verdict),
-        seen: seen::with_call(so_far, c.yields, o, e),
-    }
-}
-
-// The run after an opening.
-pub fn opened(r: Run, of: Case, o: Outcome) -> Run {
-    let before = r.tally;
-    let v = o.verdict;
-    let state = o.state;
-    let seen = r.seen;
-    Run {
-        state,
-        tally: tally::counted(before, of.kind, of.case, v),
-        seen,
-    }
 }
 
 // The run with one more verdict counted.
@@ -69,54 +43,149 @@ fn counted(r: Run, of: Case, v: Verdict) -> Run {
     after
 }
 
-// The run with a changed state more seen, whether it still adds up, and where its sum of steps stands.
-fn with_change_seen(r: Run, adds: bool, edge: usize) -> Run {
+// The run with what a plan showed that was handed in on a state of these words, where the call is that.
+fn with_plan(r: Run, words: &[u64], what: u8, number: u32) -> Run {
+    if what != calls::HAND {
+        return r;
+    }
     let mut after = r;
     let so_far = r.seen;
-    let changed = seen::raised(so_far, seen::CHANGED, 1);
-    let adding = seen::raised(changed, seen::ADDING, if adds { 1 } else { 0 });
-    let seen = seen::raised(adding, seen::EDGES + edge % 5, 1);
-    after.seen = seen;
+    let marks = marks::of_plan(words, number);
+    let more = seen::marked(so_far, seen::PLANS, &marks);
+    after.seen = more;
     after
 }
 
-fn drawn_call(s: State, of: Case, style: Style, seed: u32, yields: bool) -> Outcome {
-    both::answered(s, draws::call(s, style, of.seed, seed, yields))
-}
-
-// A slot call on a changed state, and a yield on what it answers; the run's own state stays.
-fn with_changed(r: Run, of: Case, style: Style, seed: u32) -> Run {
-    let s = r.state;
-    let other = changes::changed(s, of.kind, seed);
-    let a = drawn_call(other, of, style, seed, false);
-    let t = a.state;
-    let b = drawn_call(t, of, style, draw::draw(seed, 4), true);
-    let v = a.verdict;
-    let w = b.verdict;
-    let after = counted(counted(r, of, v), of, w);
-    with_change_seen(after, v.number != 30, sums::edge(other))
-}
-
-fn step(r: Run, page: &mut [u64], of: Case, style: Style, i: u32) -> Run {
-    let seed = draw::draw(of.seed, std::num::wrapping_add_u32(i, 100000));
-    let s = r.state;
-    let yields = draw::upto(seed, 1, 15) < style.yields;
-    let c = draws::call(s, style, of.seed, seed, yields);
-    let after = entered(r, page, of, c, both::answered(s, c));
-    match of.kind {
-        15..=20 => with_changed(after, of, style, seed),
-        _ => after,
+// The run with what a slot call or a yield showed of such plans.
+fn with_marks(r: Run, words: &[u64], c: Call, t: Told) -> Run {
+    let mut after = r;
+    let so_far = r.seen;
+    let marks = marks::of_call(words, c, t.number, t.complete, r.before);
+    let more = seen::marked(so_far, seen::CALLS, &marks);
+    after.seen = more;
+    let what = c.what;
+    match what {
+        calls::OPEN => after.before = 0,
+        _ => if marks[0] {
+            after.before = marks::planned(words);
+        },
     }
+    after
+}
+
+// The run after a call on a state of these words, entered into the ledger.
+pub fn called(
+    r: Run,
+    words: &[u64],
+    page: &mut [u64],
+    counts: &[u64],
+    of: Case,
+    c: Call,
+    o: Outcome,
+) -> Run {
+    let t = o.told;
+    let v = o.verdict;
+    let so_far = r.seen;
+    let e = both::entered(page, words, counts, c, t);
+    let verdict = Verdict {
+        number: v.number,
+        same: tally::both(v.same, e.faults == 0),
+    };
+    let mut after = counted(r, of, verdict);
+    let more = seen::with_call(so_far, c.what, t, e, counts, r.before != 0);
+    after.seen = more;
+    with_plan(with_marks(after, words, c, t), words, c.what, t.number)
+}
+
+// The run with a changed state more seen, whether it still adds up, where its sum of steps stands, and what lies beside its flag.
+fn with_change_seen(r: Run, words: &[u64], adds: bool) -> Run {
+    let mut after = r;
+    let so_far = r.seen;
+    let p = forms::plan_of(words, forms::NEXT);
+    let told = model_plans::check(values::wide(p.period), values::words(p));
+    let marks = marks::of_change(words, told.number, adds);
+    let changed = seen::raised(so_far, seen::CHANGED, 1);
+    let adding = seen::raised(changed, seen::ADDING, if adds { 1 } else { 0 });
+    let edged = seen::raised(adding, seen::EDGES + sums::edge(words) % 5, 1);
+    let more = seen::marked(edged, seen::BESIDE, &marks);
+    after.seen = more;
+    after
+}
+
+// What a drawn call on these words comes to; what they were before it is put aside.
+fn drawn_call(
+    words: &mut [u64],
+    before: &mut [u64],
+    of: Case,
+    style: Style,
+    seed: u32,
+    what: u8,
+) -> Verdict {
+    let mut counts = [0u64; 153];
+    handing::prepare(words, style, seed, what);
+    forms::copy(before, words);
+    let c = draws::call(before, style, of.seed, seed, what);
+    let o = both::answered(words, &mut counts, c);
+    o.verdict
+}
+
+// The run after a drawn call on these words that no ledger is fed.
+fn with_other(r: Run, words: &mut [u64], of: Case, style: Style, seed: u32, what: u8) -> Run {
+    let mut before = [0u64; 459];
+    let v = drawn_call(words, &mut before, of, style, seed, what);
+    with_plan(counted(r, of, v), &before, what, v.number)
+}
+
+// A slot call on a changed state, a yield on what it answers, and a plan handed in on what that answers, for the kinds that have
+// such states; the run's own state stays.
+fn with_changed(r: Run, now: &[u64], of: Case, style: Style, seed: u32) -> Run {
+    let mut words = [0u64; 459];
+    let mut before = [0u64; 459];
+    if !changes::has_kind(of.kind) {
+        return r;
+    }
+    changes::put_changed(&mut words, now, of.kind, seed);
+    let v = drawn_call(&mut words, &mut before, of, style, seed, calls::SLOT);
+    let one = with_change_seen(counted(r, of, v), &before, v.number != 30);
+    let two = with_other(
+        one,
+        &mut words,
+        of,
+        style,
+        draw::draw(seed, 4),
+        calls::YIELD,
+    );
+    with_other(two, &mut words, of, style, seed, calls::HAND)
+}
+
+// A call of a run, entered into the ledger.
+fn with_call(r: Run, now: &mut [u64], page: &mut [u64], of: Case, c: Call) -> Run {
+    let mut before = [0u64; 459];
+    let mut counts = [0u64; 153];
+    forms::copy(&mut before, now);
+    let o = both::answered(now, &mut counts, c);
+    called(r, &before, page, &counts, of, c, o)
+}
+
+fn step(r: Run, now: &mut [u64], page: &mut [u64], of: Case, style: Style, i: u32) -> Run {
+    let seed = draw::draw(of.seed, std::num::wrapping_add_u32(i, 100000));
+    let what = draws::kind_of(style, seed);
+    handing::prepare(now, style, seed, what);
+    let c = draws::call(now, style, of.seed, seed, what);
+    let after = with_call(r, now, page, of, c);
+    with_changed(after, now, of, style, seed)
 }
 
 // The opening of the case's plan, and then the steps of its style.
 pub fn tried(before: Run, of: Case, style: Style) -> Run {
-    let mut page = [0u64; 153];
+    let mut now = [0u64; 459];
+    let mut page = [0u64; 306];
     let p = styles::plan_of(style.plans, of.case, of.seed);
-    let mut r = opened(before, of, both::opened(p, &mut page));
+    forms::put_plan(&mut now, forms::GIVEN, p);
+    let mut r = with_call(before, &mut now, &mut page, of, calls::of_plan(calls::OPEN));
     let mut i: u32 = 0;
     while i < style.steps {
-        let next = step(r, &mut page, of, style, i);
+        let next = step(r, &mut now, &mut page, of, style, i);
         r = next;
         i += 1;
     }

@@ -1,14 +1,19 @@
 // Cases whose outcomes are stated as numbers, read as text lines. The first letter tells what a line is:
 //   case NAME                       a case begins
-//   plan PPPP                       its plan: the period
-//   domain NN QQQQ RRRR WWWW        and each domain
-//   open NN PPPP                    opening tells this refusal and place
+//   plan PPPP                       the plan at hand: its period,
+//   domain NN QQQQ RRRR WWWW        each domain,
+//   beside NN QQQQ RRRR WWWW        and numbers of a domain that is not planned
+//   open NN PPPP                    opening it tells this refusal and place
+//   give NN PPPP                    handing it in tells this refusal and place
 //   slot OFFERS VERDICTS NN SS      a slot call, the bytes of the buffer after it (9 before it), its refusal and its steps
 //   yield NN KKKK NN                a yield by a domain, and its refusal
 //   told 00 IIII BBBB SSSSS         the counts told by the slot call before: idle, best effort and the sum of steps,
 //   told NN RRRR CCCC YYYY WWWW     and a domain's reserved, reclaimed, yielded and writebacks
-//   none                            the slot call before told no counts
-//   has RR C VVVVVVVVVV             the word of the state in this row and column of the model
+//   none                            the call before told no counts
+//   runs                            the plan at hand is in force
+//   waits F                         the plan at hand lies beside the flag, which is 1 where a plan waits
+//   lay F                           the plan at hand is put beside the flag, and the flag to this, in the ledger too
+//   has RR C VVVVVVVVVV             the word of the state in this row and column of the model; the flag is 17 1
 //   alter RR C VVVVVVVVVV           that word is put to a value, in the ledger too
 ghost use Prim.Native.Nat.{_≤_};
 use super::both;
@@ -19,25 +24,23 @@ use super::run::Run;
 use super::seen;
 use model_calls::cells;
 use plan::Plan;
-use regulator::Counts;
 use trial_kit::lines;
 use trial_kit::report;
 use trial_kit::tally;
 use trial_kit::values;
+use trial_states::calls;
 use trial_states::calls::Call;
 use trial_states::forms;
 
 // The kind of all stated cases.
 pub const STATED: u32 = 100;
 
-// The run so far, the case at hand and where its name stands, its plan, and what the last slot call told.
+// The run so far, the case at hand and where its name stands, and whether the last call told counts.
 pub struct Script {
     pub run: Run,
     pub of: Case,
     pub named: usize,
-    pub plan: Plan,
     pub complete: bool,
-    pub counts: Counts,
 }
 
 // Seventeen digits as bytes, and a byte behind them.
@@ -67,92 +70,111 @@ fn stated(s: Script, same: bool) -> Script {
     after
 }
 
-fn with_run(s: Script, r: Run) -> Script {
-    let mut after = s;
-    after.run = r;
-    after
+// What the call of a line is.
+fn kind_of(letter: u8) -> u8 {
+    match letter {
+        b's' => calls::SLOT,
+        b'y' => calls::YIELD,
+        b'g' => calls::HAND,
+        _ => calls::OPEN,
+    }
 }
 
-fn opened(s: Script, text: &[u8], at: usize, o: Outcome) -> Script {
-    let r = s.run;
-    let of = s.of;
-    let v = o.verdict;
-    let after = with_run(s, run::opened(r, of, o));
-    let due = v.number == lines::small(text, at, 5, 2);
-    stated(
-        after,
-        tally::both(due, o.place == lines::small(text, at, 8, 4)),
-    )
-}
-
-fn open_line(s: Script, text: &[u8], at: usize, page: &mut [u64]) -> Script {
-    let p = s.plan;
-    opened(s, text, at, both::opened(p, page))
-}
-
-// A call, whose refusal is stated.
-fn called(s: Script, page: &mut [u64], c: Call, o: Outcome, due: u32) -> Script {
-    let r = s.run;
-    let of = s.of;
-    let v = o.verdict;
-    let counts = o.counts;
-    let mut after = with_run(s, run::entered(r, page, of, c, o));
-    after.complete = o.complete;
-    after.counts = counts;
-    stated(after, v.number == due)
-}
-
-fn slot_line(s: Script, text: &[u8], at: usize, page: &mut [u64]) -> Script {
-    let r = s.run;
-    let state = r.state;
-    let c = Call {
-        yields: false,
+fn call_of(text: &[u8], at: usize) -> Call {
+    Call {
+        what: kind_of(lines::byte(text, at)),
         offers: digits_of(text, at, 5, 0),
-        offered: 17,
-        lent: 17,
-        filled: 9,
-        domain: 0,
-        k: 0,
-    };
-    let o = both::answered(state, c);
-    let verdicts = o.verdicts;
-    let due = digits_of(text, at, 23, 9);
-    let after = called(s, page, c, o, lines::small(text, at, 41, 2));
-    let counted = stated(after, o.steps == lines::small(text, at, 44, 2));
-    stated(counted, both::same_bytes(verdicts, due))
-}
-
-fn yield_line(s: Script, text: &[u8], at: usize, page: &mut [u64]) -> Script {
-    let r = s.run;
-    let state = r.state;
-    let c = Call {
-        yields: true,
-        offers: [0; 18],
         offered: 17,
         lent: 17,
         filled: 9,
         domain: lines::number(text, at, 6, 2),
         k: lines::number(text, at, 9, 4),
-    };
-    called(
-        s,
-        page,
-        c,
-        both::answered(state, c),
-        lines::small(text, at, 14, 2),
-    )
+    }
+}
+
+// The steps and verdicts of a slot line; the place of an opening and of a plan handed in.
+fn rest_stated(s: Script, text: &[u8], at: usize, o: Outcome) -> Script {
+    let t = o.told;
+    let verdicts = t.verdicts;
+    match lines::byte(text, at) {
+        b's' => {
+            let steps = stated(s, t.steps == lines::small(text, at, 44, 2));
+            stated(
+                steps,
+                both::same_bytes(verdicts, digits_of(text, at, 23, 9)),
+            )
+        }
+        b'y' => s,
+        _ => stated(s, t.place == lines::small(text, at, 8, 4)),
+    }
+}
+
+// Where a line states the refusal of its call.
+fn refusal_at(letter: u8) -> usize {
+    match letter {
+        b's' => 41,
+        b'y' => 14,
+        _ => 5,
+    }
+}
+
+// A call on a state of these words, whose outcome is stated.
+fn called(
+    s: Script,
+    words: &[u64],
+    page: &mut [u64],
+    counts: &[u64],
+    c: Call,
+    o: Outcome,
+) -> Script {
+    let mut after = s;
+    let r = s.run;
+    let of = s.of;
+    let t = o.told;
+    let next = run::called(r, words, page, counts, of, c, o);
+    after.run = next;
+    after.complete = t.complete;
+    after
+}
+
+fn call_line(
+    s: Script,
+    text: &[u8],
+    at: usize,
+    now: &mut [u64],
+    counts: &mut [u64],
+    page: &mut [u64],
+) -> Script {
+    let mut words = [0u64; 459];
+    let c = call_of(text, at);
+    forms::copy(&mut words, now);
+    let o = both::answered(now, counts, c);
+    let after = called(s, &words, page, counts, c, o);
+    call_stated(after, text, at, o)
+}
+
+// The outcome of a call.
+fn call_stated(s: Script, text: &[u8], at: usize, o: Outcome) -> Script {
+    let v = o.verdict;
+    let due = lines::small(text, at, refusal_at(lines::byte(text, at)), 2);
+    rest_stated(stated(s, v.number == due), text, at, o)
 }
 
 // Whether the count in a column of the row that the line names is the number of so many digits at an offset.
-fn tells(c: Counts, text: &[u8], at: usize, column: usize, offset: usize, digits: usize) -> bool
-    requires { ⌜ column ≤ 8 ⌝ }
-{
+fn tells(
+    counts: &[u64],
+    text: &[u8],
+    at: usize,
+    column: usize,
+    offset: usize,
+    digits: usize,
+) -> bool {
     let row = lines::small(text, at, 5, 2) as usize;
-    forms::count_word(c, 9 * row + column) == lines::number(text, at, offset, digits)
+    cells::get(counts, row, column) == lines::number(text, at, offset, digits)
 }
 
 // Whether all counts of that row are those of the line.
-fn row_told(c: Counts, text: &[u8], at: usize) -> bool {
+fn row_told(c: &[u64], text: &[u8], at: usize) -> bool {
     if lines::small(text, at, 5, 2) == 0 {
         let slots = tally::both(tells(c, text, at, 3, 8, 4), tells(c, text, at, 4, 13, 4));
         return tally::both(slots, tells(c, text, at, 7, 18, 5));
@@ -162,43 +184,73 @@ fn row_told(c: Counts, text: &[u8], at: usize) -> bool {
     tally::both(passes, others)
 }
 
-fn told_line(s: Script, text: &[u8], at: usize) -> Script {
-    let c = s.counts;
-    stated(s, tally::both(s.complete, row_told(c, text, at)))
+// Whether the plan that begins at a word is the plan at hand.
+fn is_given(now: &[u64], from: usize) -> bool
+    requires { ⌜ from ≤ 153 ⌝ }
+{
+    let mut found = [0u64; 153];
+    let mut given = [0u64; 153];
+    forms::put_plan(&mut found, forms::FORCE, forms::plan_of(now, from));
+    forms::put_plan(&mut given, forms::FORCE, forms::plan_of(now, forms::GIVEN));
+    forms::same_words(&found, &given)
 }
 
-fn has_line(s: Script, text: &[u8], at: usize) -> Script {
-    let r = s.run;
-    let state = r.state;
-    let k = lines::small(text, at, 4, 2) as usize * 9 + lines::small(text, at, 7, 1) as usize;
-    stated(s, forms::word(state, k) == lines::number(text, at, 9, 10))
+// Whether the state, or the counts of the last call, are as a line states.
+fn holds(text: &[u8], at: usize, now: &[u64], counts: &[u64], complete: bool) -> bool {
+    let row = lines::small(text, at, 4, 2) as usize;
+    let word = forms::word(now, 9 * row + lines::digit(text, at, 7) as usize);
+    let flag = forms::word(now, forms::WAITS) == lines::number(text, at, 6, 1);
+    match lines::byte(text, at) {
+        b't' => tally::both(complete, row_told(counts, text, at)),
+        b'n' => !complete,
+        b'r' => is_given(now, forms::FORCE),
+        b'w' => tally::both(flag, is_given(now, forms::NEXT)),
+        _ => word == lines::number(text, at, 9, 10),
+    }
 }
 
-fn alter_line(s: Script, text: &[u8], at: usize, page: &mut [u64]) -> Script {
-    let mut r = s.run;
-    let state = r.state;
-    let row = lines::small(text, at, 6, 2) as usize;
-    let column = lines::small(text, at, 9, 1) as usize;
+// A domain of the plan at hand, planned or not.
+fn put_domain(text: &[u8], at: usize, now: &mut [u64], planned: u64) {
+    let row = forms::GIVEN + 9 * lines::small(text, at, 7, 2) as usize;
+    forms::put(now, row, planned);
+    forms::put(now, row + 1, lines::number(text, at, 10, 4));
+    forms::put(now, row + 2, lines::number(text, at, 15, 4));
+    forms::put(now, row + 3, lines::number(text, at, 20, 4));
+}
+
+// The plan at hand put beside the flag, and the flag.
+fn lay(words: &mut [u64], p: Plan, flag: u64) {
+    forms::put_plan(words, forms::NEXT, p);
+    forms::put(words, forms::WAITS, flag);
+}
+
+fn alter(text: &[u8], at: usize, now: &mut [u64], page: &mut [u64]) {
+    let k = 9 * lines::small(text, at, 6, 2) as usize + lines::digit(text, at, 9) as usize;
     let value = lines::number(text, at, 11, 10);
-    cells::put(page, row, column, value);
-    let altered = forms::with_word(state, 9 * row + column, value);
-    r.state = altered;
-    with_run(s, r)
+    forms::put(page, k, value);
+    forms::put(now, k, value);
+    forms::fit(now);
 }
 
-fn with_plan(s: Script, p: Plan) -> Script {
-    let mut after = s;
-    after.plan = p;
-    after
-}
-
-fn domain_line(s: Script, text: &[u8], at: usize) -> Script {
-    let p = s.plan;
-    let n = lines::small(text, at, 7, 2) + 15;
-    let q = lines::small(text, at, 10, 4);
-    let r = lines::small(text, at, 15, 4);
-    let w = lines::small(text, at, 20, 4);
-    with_plan(s, values::with_numbers(p, n, q, r, w))
+// A line that changes the plan at hand, or the state and the ledger.
+fn put_line(text: &[u8], at: usize, now: &mut [u64], page: &mut [u64]) {
+    let p = forms::plan_of(now, forms::GIVEN);
+    let flag = lines::number(text, at, 4, 1);
+    let period = lines::small(text, at, 5, 4);
+    match lines::byte(text, at) {
+        b'p' => forms::put_plan(
+            now,
+            forms::GIVEN,
+            values::with_period(values::nothing(), period),
+        ),
+        b'd' => put_domain(text, at, now, 1),
+        b'b' => put_domain(text, at, now, 0),
+        b'l' => {
+            lay(now, p, flag);
+            lay(page, p, flag);
+        }
+        _ => alter(text, at, now, page),
+    }
 }
 
 // The counts of the case at hand are printed, and the next begins.
@@ -224,38 +276,30 @@ fn case_line(s: Script, text: &[u8], at: usize) -> Script {
     after
 }
 
-fn plan_line(s: Script, text: &[u8], at: usize) -> Script {
-    with_plan(
-        s,
-        values::with_period(values::nothing(), lines::small(text, at, 5, 4)),
-    )
-}
-
-// A line that changes neither the state nor the ledger.
-fn given_line(s: Script, text: &[u8], at: usize) -> Script {
+fn line(
+    s: Script,
+    text: &[u8],
+    at: usize,
+    now: &mut [u64],
+    counts: &mut [u64],
+    page: &mut [u64],
+) -> Script {
     match lines::byte(text, at) {
         b'c' => case_line(s, text, at),
-        b'p' => plan_line(s, text, at),
-        b'd' => domain_line(s, text, at),
-        b't' => told_line(s, text, at),
-        b'n' => stated(s, !s.complete),
-        _ => has_line(s, text, at),
-    }
-}
-
-fn line(s: Script, text: &[u8], at: usize, page: &mut [u64]) -> Script {
-    match lines::byte(text, at) {
-        b'o' => open_line(s, text, at, page),
-        b's' => slot_line(s, text, at, page),
-        b'y' => yield_line(s, text, at, page),
-        b'a' => alter_line(s, text, at, page),
-        _ => given_line(s, text, at),
+        b'o' | b'g' | b's' | b'y' => call_line(s, text, at, now, counts, page),
+        b'p' | b'd' | b'b' | b'l' | b'a' => {
+            put_line(text, at, now, page);
+            s
+        }
+        _ => stated(s, holds(text, at, now, counts, s.complete)),
     }
 }
 
 // All cases of the text. Its last line begins a case without a name, so that the one before is printed.
 pub fn cases(before: Run, text: &[u8]) -> Run {
-    let mut page = [0u64; 153];
+    let mut now = [0u64; 459];
+    let mut counts = [0u64; 153];
+    let mut page = [0u64; 306];
     let mut s = Script {
         run: before,
         of: Case {
@@ -264,13 +308,11 @@ pub fn cases(before: Run, text: &[u8]) -> Run {
             seed: 0,
         },
         named: 0,
-        plan: values::nothing(),
         complete: false,
-        counts: both::no_counts(),
     };
     let mut at: usize = 0;
     while at < text.len() {
-        let next = line(s, text, at, &mut page);
+        let next = line(s, text, at, &mut now, &mut counts, &mut page);
         s = next;
         at = lines::after_line(text, at);
     }

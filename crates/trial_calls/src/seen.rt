@@ -1,14 +1,15 @@
-// What the runs came to: verdicts, slots, steps and periods, so that a program that does nothing is noticed.
-use super::both::Outcome;
+// What the runs came to: verdicts, slots, steps, periods and plans handed in, so that a program that does nothing is noticed.
+use super::both::Told;
 use model_calls::Entry;
-use regulator::Counts;
+use model_calls::cells;
 use trial_kit::lines::say_nth;
 use trial_kit::report;
-use trial_kit::values;
+use trial_kit::tally::both;
+use trial_states::calls;
 
-// How often verdicts 0 to 6 were told stands at 0 to 6, how often steps 0 to 17 at 22 to 39.
+// How often verdicts 0 to 6 were told stands at 0 to 6, how often steps 0 to 17 at 52 to 69.
 pub struct Seen {
-    pub counts: [u32; 40],
+    pub counts: [u32; 70],
 }
 
 pub const IDLE: usize = 7;
@@ -33,14 +34,40 @@ pub const EDGES: usize = 16;
 
 const LARGEST: usize = 21;
 
-const STEPS: usize = 22;
+// Of plans handed in: when they were taken and what they were, and what other calls showed of them; the domains that kept asking
+// under one; and changed states by what lies beside their flag.
+pub const PLANS: usize = 22;
+
+pub const CALLS: usize = 35;
+
+const RENEWED: usize = 44;
+
+pub const BESIDE: usize = 45;
+
+const STEPS: usize = 52;
 
 pub fn raised(seen: Seen, k: usize, by: u32) -> Seen {
     let mut after = seen;
-    let at = k % 40;
+    let at = k % 70;
     let x = after.counts[at];
     if x < 1000000000 {
         after.counts[at] = x + by % 65536;
+    }
+    after
+}
+
+// Each line from one on whose mark is set.
+pub fn marked(seen: Seen, from: usize, marks: &[bool]) -> Seen {
+    let mut after = seen;
+    let mut k: usize = 0;
+    while k < marks.len() {
+        let next = raised(
+            after,
+            std::num::wrapping_add_usize(from, k),
+            if marks[k] { 1 } else { 0 },
+        );
+        after = next;
+        k += 1;
     }
     after
 }
@@ -65,44 +92,47 @@ fn with_sum(seen: Seen, sum: u32) -> Seen {
     after
 }
 
+// A count, of at most 32 bits.
+fn small(counts: &[u64], row: usize, column: usize) -> u32 {
+    cells::get(counts, row, column) as u32
+}
+
 // The counts of a completed period.
-fn with_counts(seen: Seen, c: Counts) -> Seen {
-    let mut after = with_sum(raised(seen, PERIODS, 1), c.steps);
-    let mut i: usize = 0;
-    while i < 16 {
-        let one = raised(after, RECLAIMED, values::wide(c.reclaimed[i]));
-        let two = raised(one, WRITEBACKS, values::wide(c.writebacks[i]));
+fn with_counts(seen: Seen, counts: &[u64]) -> Seen {
+    let steps = small(counts, 0, cells::STEPS);
+    let mut after = with_sum(raised(seen, PERIODS, 1), steps);
+    let mut n: usize = 1;
+    while n <= 16 {
+        let one = raised(after, RECLAIMED, small(counts, n, cells::RECLAIMED));
+        let two = raised(one, WRITEBACKS, small(counts, n, cells::WRITEBACKS));
         after = two;
-        i += 1;
+        n += 1;
     }
     after
 }
 
 // A slot that was decided: its verdicts, its steps, and whether it was idle.
-fn with_slot(seen: Seen, o: Outcome, complete: bool) -> Seen {
-    let verdicts = o.verdicts;
-    let counts = o.counts;
+fn with_slot(seen: Seen, t: Told, counts: &[u64]) -> Seen {
+    let verdicts = t.verdicts;
     let told = with_verdicts(seen, verdicts);
     let granted = told.counts[1] != seen.counts[1];
-    let stepped = raised(told, STEPS + (o.steps % 18) as usize, 1);
+    let stepped = raised(told, STEPS + (t.steps % 18) as usize, 1);
     let after = raised(stepped, IDLE, if granted { 0 } else { 1 });
-    if complete {
+    if t.complete {
         with_counts(after, counts)
     } else {
         after
     }
 }
 
-// A call of a run and its entry in the ledger.
-pub fn with_call(seen: Seen, yields: bool, o: Outcome, e: Entry) -> Seen {
-    let after = raised(raised(seen, ASKED, e.asked), FAULTS, e.faults);
-    if yields {
-        return after;
-    }
-    if o.refused {
-        after
+// A call of a run and its entry in the ledger, under a plan that was handed in or not.
+pub fn with_call(seen: Seen, what: u8, t: Told, e: Entry, counts: &[u64], renewed: bool) -> Seen {
+    let kept = raised(seen, RENEWED, if renewed { e.asked } else { 0 });
+    let after = raised(raised(kept, ASKED, e.asked), FAULTS, e.faults);
+    if both(what == calls::SLOT, t.number == 0) {
+        with_slot(after, t, counts)
     } else {
-        with_slot(after, o, e.complete)
+        after
     }
 }
 
@@ -129,7 +159,37 @@ fn say_name(k: usize) {
         changed states whose sum of steps is the most for their slots\n\
         changed states whose sum of steps is one more\n\
         changed states whose sum of steps is another\n\
-        largest sum of steps of a completed period\n",
+        largest sum of steps of a completed period\n\
+        plans handed in and taken at T 0\n\
+        plans handed in and taken in the middle of a period\n\
+        plans handed in and taken at T P - 1\n\
+        plans handed in and taken with P 1\n\
+        plans taken in the place of one that waited\n\
+        plans taken that are the plan in force again\n\
+        plans taken with a domain more than the plan in force\n\
+        plans taken without a domain that has claim left\n\
+        plans taken with other numbers for a domain of the plan in force\n\
+        plans taken while claim, stock and writebacks stand\n\
+        plans refused with 2, 9 or 10 while another waits\n\
+        plans refused with 30\n\
+        plans refused with 34\n\
+        periods at whose end a plan took force\n\
+        periods at whose end a plan of a smaller period took force\n\
+        periods at whose end a plan of a larger period took force\n\
+        slots refused with 33 for domains that the plan that waits has\n\
+        slots refused with 33 for domains that the plan before had\n\
+        yields refused with 21 of a domain that the plan that waits has\n\
+        yields refused with 21 of a domain that the plan before had\n\
+        slots taken with an offer from a domain that the plan that waits leaves out\n\
+        yields taken of a domain that the plan that waits leaves out\n\
+        domains with a reservation that kept asking through a completed period of a plan handed in\n\
+        changed states in which a plan waits\n\
+        changed states whose waiting plan is refused with 2\n\
+        changed states whose waiting plan is refused with 9\n\
+        changed states whose waiting plan is refused with 10\n\
+        changed states with a plan beside a flag that is off\n\
+        changed states with a plan beside that flag that would be refused\n\
+        changed states with such a plan that add up\n",
         k,
     );
 }
@@ -138,7 +198,7 @@ fn say_name(k: usize) {
 fn steps_line(seen: Seen) {
     report::say(b"slots by their steps, 0 to 17:");
     let mut k: usize = STEPS;
-    while k < 40 {
+    while k < 70 {
         report::say_number(b" ", seen.counts[k]);
         k += 1;
     }

@@ -1,4 +1,4 @@
-// Plan values made from drawn ones: accepted, damaged, with several faults, and of any period.
+// Plan values made from drawn ones: accepted, damaged, with several faults, of any period, and refused with a given number.
 use super::draw;
 use super::values;
 use plan::Plan;
@@ -57,6 +57,44 @@ fn periods(p: Plan, case: u32, seed: u32) -> Plan {
         3 => values::with_period(p, 4097),
         4 => values::with_period(p, 65535),
         _ => values::with_period(p, draw::upto(seed, 60, 65535)),
+    }
+}
+
+// A period out of range.
+fn no_period(seed: u32) -> u32 {
+    match draw::upto(seed, 70, 3) {
+        0 => 0,
+        1 => 4097,
+        2 => 65535,
+        _ => 4097 + draw::upto(seed, 71, 61438),
+    }
+}
+
+// One of Q, R and W of a domain that is planned put just above P, or to the most that it holds.
+fn above(p: Plan, domain: u32, seed: u32) -> Plan {
+    let k = domain % 16 * 4;
+    let value = if draw::upto(seed, 72, 1) == 0 {
+        65535
+    } else {
+        values::wide(p.period) + 1
+    };
+    let present = values::with_word(p, k, 1);
+    values::with_word(present, k + 1 + draw::upto(seed, 73, 2), value)
+}
+
+// A plan, accepted before, that is refused with 2 (way 0), with 9 for a planned domain (1) or for an absent one (2), or else
+// with 10.
+pub fn spoiled(p: Plan, way: u32, seed: u32) -> Plan {
+    let n = draw::upto(seed, 74, 14);
+    let period = values::wide(p.period);
+    match way {
+        0 => values::with_period(p, no_period(seed)),
+        1 => above(p, n, seed),
+        2 => absent(p, seed),
+        _ => {
+            let whole = values::with_numbers(p, n, period, 0, period);
+            values::with_numbers(whole, n + 1, 1, period, 0)
+        }
     }
 }
 

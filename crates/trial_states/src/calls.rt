@@ -1,12 +1,34 @@
-// A call with its arguments other than the state.
+// A call with its arguments other than the state, and other than the plan at hand, which lies behind the state's words.
 
-// A slot call: so many of the offers, and so many bytes lent, which hold `filled` before; or a yield.
+// What a call is: a slot call, a yield, a plan handed in, or a plan opened.
+pub const SLOT: u8 = 0;
+
+pub const YIELD: u8 = 1;
+
+pub const HAND: u8 = 2;
+
+pub const OPEN: u8 = 3;
+
+// A slot call has so many of the offers, and so many bytes lent, which hold `filled` before; a yield has a domain and k.
 pub struct Call {
-    pub yields: bool,
+    pub what: u8,
     pub offers: [u8; 18],
     pub offered: usize,
     pub lent: usize,
     pub filled: u8,
     pub domain: u64,
     pub k: u64,
+}
+
+// A call that is neither a slot call nor a yield.
+pub fn of_plan(what: u8) -> Call {
+    Call {
+        what,
+        offers: [0; 18],
+        offered: 17,
+        lent: 17,
+        filled: 0,
+        domain: 0,
+        k: 0,
+    }
 }

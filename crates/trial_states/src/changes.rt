@@ -1,7 +1,7 @@
 // States changed in one number, in several, or in all: most no longer add up, and each line of that rule is broken alone.
 use super::forms;
+use super::handing;
 use super::sums;
-use regulator::State;
 use trial_kit::bytes;
 use trial_kit::draw;
 use trial_kit::values;
@@ -21,35 +21,32 @@ fn word_of(column: usize, domain: usize) -> usize {
 }
 
 // A number raised or lowered, by so much or by 17 times that; both go round.
-fn shifted(s: State, k: usize, by: u64, sign: u8) -> State {
-    let x = forms::word(s, k);
+fn shift(words: &mut [u64], k: usize, by: u64, sign: u8) {
+    let x = forms::word(words, k);
     match sign {
-        b'+' => forms::with_word(s, k, std::num::wrapping_add_u64(x, by)),
-        b'-' => forms::with_word(s, k, std::num::wrapping_sub_u64(x, by)),
-        b'>' => forms::with_word(s, k, std::num::wrapping_add_u64(x, by % 131072 * 17)),
-        b'<' => forms::with_word(s, k, std::num::wrapping_sub_u64(x, by % 131072 * 17)),
-        _ => s,
+        b'+' => forms::put(words, k, std::num::wrapping_add_u64(x, by)),
+        b'-' => forms::put(words, k, std::num::wrapping_sub_u64(x, by)),
+        b'>' => forms::put(words, k, std::num::wrapping_add_u64(x, by % 131072 * 17)),
+        b'<' => forms::put(words, k, std::num::wrapping_sub_u64(x, by % 131072 * 17)),
+        _ => (),
     }
 }
 
-// A state moved by the row of signs that begins at a place.
-fn moved(s: State, domain: usize, by: u64, rows: &[u8], from: usize) -> State {
-    let mut after = s;
+// Moves a state by the row of signs that begins at a place.
+fn shift_by(words: &mut [u64], domain: usize, by: u64, rows: &[u8], from: usize) {
     let mut column: usize = 0;
     while column < 14 {
         let sign = bytes::get(rows, std::num::wrapping_add_usize(from, column));
-        let next = shifted(after, word_of(column, domain), by, sign);
-        after = next;
+        shift(words, word_of(column, domain), by, sign);
         column += 1;
     }
-    after
 }
 
 // Moves that keep some of the sums: slots, passes and yields as they go, their undoing, and parts of them; in the last three
 // idle slots come and go without their steps. A row of signs for each way.
-fn moved_in(s: State, way: u32, domain: usize, by: u64) -> State {
-    moved(
-        s,
+fn shift_in(words: &mut [u64], way: u32, domain: usize, by: u64) {
+    shift_by(
+        words,
         domain,
         by,
         b"0++0000000000>\
@@ -80,38 +77,38 @@ fn moved_in(s: State, way: u32, domain: usize, by: u64) -> State {
         0--00000000000\
         00+-0000000000",
         14 * (way % 27) as usize,
-    )
+    );
 }
 
-fn several(s: State, seed: u32) -> State {
+fn several(words: &mut [u64], seed: u32) {
     let way = draw::upto(seed, 80, 26);
-    moved_in(s, way, draw::upto(seed, 81, 15) as usize, 1)
+    shift_in(words, way, draw::upto(seed, 81, 15) as usize, 1);
 }
 
 // A fresh state whose plan has sixteen Q of 4,096: they come to 65,536.
-fn of_full_plan(s: State) -> State {
-    let mut after = s;
+fn put_full_plan(words: &mut [u64]) {
+    let mut s = forms::state_of(words);
     let p = values::drawn(1, values::FULL);
-    after.plan = p;
-    after.claim = [4096; 16];
-    after.reserved = [0; 16];
-    after.reclaimed = [0; 16];
-    after.yielded = [0; 16];
-    after.writebacks = [0; 16];
-    after.decided = 0;
-    after.idle = 0;
-    after.best = 0;
-    after.stock = 0;
-    after.steps = 0;
-    after
+    s.plan = p;
+    s.claim = [4096; 16];
+    s.reserved = [0; 16];
+    s.reclaimed = [0; 16];
+    s.yielded = [0; 16];
+    s.writebacks = [0; 16];
+    s.decided = 0;
+    s.idle = 0;
+    s.best = 0;
+    s.stock = 0;
+    s.steps = 0;
+    forms::put_state(words, s);
 }
 
 // By how much numbers are moved: by one more than the claim, the stock or the decided slots lowered, or by any.
-fn round_by(s: State, which: u32, domain: usize, seed: u32) -> u64 {
+fn round_by(words: &[u64], which: u32, domain: usize, seed: u32) -> u64 {
     match which {
-        2 => 1 + forms::word(s, 9 * (domain % 16 + 1) + 4) % 65536,
-        3 => 1 + forms::word(s, 5) % 65536,
-        5 => 1 + forms::word(s, 1) % 65536,
+        2 => 1 + forms::word(words, 9 * (domain % 16 + 1) + 4) % 65536,
+        3 => 1 + forms::word(words, 5) % 65536,
+        5 => 1 + forms::word(words, 1) % 65536,
         _ => 1 + draw::upto(seed, 82, 65534) as u64,
     }
 }
@@ -128,9 +125,9 @@ fn round_way(which: u32) -> u32 {
 
 // Idle slots put behind those decided, none, all that the period has left but one, or a drawn number of them; then the sum of
 // steps alone put in a drawn way.
-fn steps_off(s: State, seed: u32) -> State {
-    let period = (forms::word(s, 0) % 65536) as u32;
-    let decided = (forms::word(s, 1) % 65536) as u32;
+fn steps_off(words: &mut [u64], seed: u32) {
+    let period = (forms::word(words, 0) % 65536) as u32;
+    let decided = (forms::word(words, 1) % 65536) as u32;
     let left = if decided < period {
         period - decided - 1
     } else {
@@ -141,19 +138,21 @@ fn steps_off(s: State, seed: u32) -> State {
         1 => left,
         _ => draw::upto(seed, 85, left),
     };
-    sums::with_sum(moved_in(s, 0, 0, idle as u64), draw::upto(seed, 80, 7))
+    shift_in(words, 0, 0, idle as u64);
+    sums::put_sum(words, draw::upto(seed, 80, 7));
 }
 
 // Sums that are right only if they go round at 65,536; the sum of steps fits the idle slots.
-fn round(s: State, seed: u32) -> State {
+fn round(words: &mut [u64], seed: u32) {
     let which = draw::upto(seed, 80, 6);
     let domain = draw::upto(seed, 81, 15) as usize;
     if which == 6 {
-        of_full_plan(s)
-    } else {
-        let by = round_by(s, which, domain, seed);
-        sums::with_sum(moved_in(s, round_way(which), domain, by), sums::LEAST)
+        put_full_plan(words);
+        return;
     }
+    let by = round_by(words, which, domain, seed);
+    shift_in(words, round_way(which), domain, by);
+    sums::put_sum(words, sums::LEAST);
 }
 
 // A turn out of its range, also one whose low bits are within it.
@@ -179,61 +178,99 @@ fn number_off(x: u64, drawn: u32) -> u64 {
     }
 }
 
-// Word k put off; whether a domain is planned is put to the other.
+// Word k put off; a flag, that of the plan that waits or a domain's, is put to the other.
 fn word_off(k: usize, x: u64, drawn: u32) -> u64 {
-    if k == 6 {
-        return turn_off(x, drawn);
+    match k {
+        6 => return turn_off(x, drawn),
+        forms::FORCE | forms::NEXT => return number_off(x, drawn),
+        forms::WAITS => return 1 - x % 2,
+        _ => (),
     }
     if k % 9 == 0 {
-        if k > 0 {
-            return 1 - x % 2;
-        }
+        1 - x % 2
+    } else {
+        number_off(x, drawn)
     }
-    number_off(x, drawn)
+}
+
+// Any word of a state: one of the first seventeen rows, of which 8 is none, the flag, or one of the plan beside it.
+fn any_word(x: u32) -> usize {
+    let k = (x % 219) as usize;
+    if k == 8 {
+        return 7;
+    }
+    if k <= forms::WAITS {
+        return k;
+    }
+    let i = k - forms::WAITS - 1;
+    forms::NEXT + 9 * (i / 4 + 1) + i % 4
 }
 
 // One number put off.
-fn one_off(s: State, seed: u32) -> State {
-    let k = draw::upto(seed, 80, 152) as usize;
-    let value = word_off(k, forms::word(s, k), draw::draw(seed, 81));
-    forms::with_word(s, k, value)
+fn one_off(words: &mut [u64], seed: u32) {
+    let k = any_word(draw::draw(seed, 80));
+    let x = forms::word(words, k);
+    forms::put(words, k, word_off(k, x, draw::draw(seed, 81)));
 }
 
 // Every number drawn, from all that it holds or from few.
-fn any_state(s: State, seed: u32) -> State {
+fn any_state(words: &mut [u64], seed: u32) {
     let most = match draw::upto(seed, 99, 3) {
         0 => 65535,
         1 => 3,
         _ => 1,
     };
-    let mut after = s;
-    let mut k: usize = 0;
-    while k < 153 {
-        let x = draw::upto(seed, 100 + (k % 1000) as u32, most);
-        let next = forms::with_word(after, k, x as u64);
-        after = next;
+    let mut k: u32 = 0;
+    while k < 219 {
+        let x = draw::upto(seed, 100 + k, most);
+        forms::put(words, any_word(k), x as u64);
         k += 1;
     }
-    after
 }
 
 // So many periods closed that one more can be, or none; then now and then another number off too.
-fn long_run(s: State, seed: u32) -> State {
-    let closed = forms::with_word(s, 2, 4294967294 + draw::upto(seed, 83, 1) as u64);
+fn long_run(words: &mut [u64], seed: u32) {
+    forms::put(words, 2, 4294967294 + draw::upto(seed, 83, 1) as u64);
     match draw::upto(seed, 84, 3) {
-        0 => one_off(closed, seed),
-        _ => closed,
+        0 => one_off(words, seed),
+        _ => (),
     }
 }
 
-// The changed state of a step, for the kinds 15 to 20.
-pub fn changed(s: State, kind: u32, seed: u32) -> State {
-    match kind {
-        15 => one_off(s, seed),
-        16 => several(s, seed),
-        17 => round(s, seed),
-        18 => any_state(s, seed),
-        19 => long_run(s, seed),
-        _ => steps_off(s, seed),
+// A plan that would be refused beside the flag; now and then no period more can be closed.
+fn beside(words: &mut [u64], waits: bool, seed: u32) {
+    handing::lay_spoiled(words, waits, seed);
+    match draw::upto(seed, 84, 3) {
+        0 => forms::put(words, 2, 4294967295),
+        _ => (),
     }
+}
+
+// Changes the words of a state, for the kinds 15 to 20, 24 and 25; they may come to more than a state holds.
+fn change(words: &mut [u64], kind: u32, seed: u32) {
+    match kind {
+        15 => one_off(words, seed),
+        16 => several(words, seed),
+        17 => round(words, seed),
+        18 => any_state(words, seed),
+        19 => long_run(words, seed),
+        20 => steps_off(words, seed),
+        24 => beside(words, true, seed),
+        _ => beside(words, false, seed),
+    }
+}
+
+// Whether a changed state is tried at each step of a kind.
+pub fn has_kind(kind: u32) -> bool {
+    match kind {
+        15..=20 | 24 | 25 => true,
+        _ => false,
+    }
+}
+
+// Puts the changed state of a step.
+pub fn put_changed(to: &mut [u64], now: &[u64], kind: u32, seed: u32) {
+    forms::copy(to, now);
+    change(to, kind, seed);
+    forms::fit(to);
 }

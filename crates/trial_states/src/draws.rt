@@ -1,18 +1,25 @@
-// Drawn calls: offers, yields, and faults put into either.
+// Drawn calls on a state of these words: offers, yields, and faults put into either.
+ghost use Prim.Native.Nat.{_≤_};
+use super::calls;
 use super::calls::Call;
 use super::forms;
 use super::styles::Style;
-use plan::Plan;
-use regulator::State;
 use trial_kit::draw;
 use trial_kit::tally::both;
 
+// Whether the domain whose number is one above is planned.
+fn is_planned(words: &[u64], i: usize) -> bool {
+    forms::word(words, 9 * (i % 16 + 1)) != 0
+}
+
 // The first domain number from a start on, going round, that is planned or is not; 0 for none.
-fn domain_from(p: Plan, start: u32, planned: bool) -> usize {
+pub fn domain_from(words: &[u64], start: u32, planned: bool) -> usize
+    ensures { λ r. ⌜ r ≤ 16 ⌝ }
+{
     let mut left: u32 = 0;
     while left < 16 {
         let i = (std::num::wrapping_add_u32(start, left) % 16) as usize;
-        if p.planned[i] == planned {
+        if is_planned(words, i) == planned {
             return i + 1;
         }
         left += 1;
@@ -21,12 +28,12 @@ fn domain_from(p: Plan, start: u32, planned: bool) -> usize {
 }
 
 // The offer of a planned domain, or of best effort. Some domains offer in every slot of a run, so that they keep asking.
-fn offer(s: State, style: Style, run: u32, seed: u32, n: u32) -> u8 {
+fn offer(words: &[u64], style: Style, run: u32, seed: u32, n: u32) -> u8 {
     if style.offers == 0 {
         return 0;
     }
     let row = (n % 17) as usize;
-    let full = forms::word(s, 9 * row + 8) == forms::word(s, 9 * row + 3);
+    let full = forms::word(words, 9 * row + 8) == forms::word(words, 9 * row + 3);
     let writes = draw::upto(seed, std::num::wrapping_add_u32(n, 20), 15) < style.writebacks;
     let steady = draw::upto(run, std::num::wrapping_add_u32(n, 900), 3) == 0;
     if steady {
@@ -39,22 +46,20 @@ fn offer(s: State, style: Style, run: u32, seed: u32, n: u32) -> u8 {
 }
 
 // Its offer, or none from a domain that is not planned.
-fn offer_at(s: State, style: Style, run: u32, seed: u32, n: usize) -> u8 {
-    let p = s.plan;
+fn offer_at(words: &[u64], style: Style, run: u32, seed: u32, n: usize) -> u8 {
     if n > 0 {
-        let i = (n - 1) % 16;
-        if p.planned[i] == false {
+        if !is_planned(words, n - 1) {
             return 0;
         }
     }
-    offer(s, style, run, seed, (n % 17) as u32)
+    offer(words, style, run, seed, (n % 17) as u32)
 }
 
-fn offers(s: State, style: Style, run: u32, seed: u32) -> [u8; 18] {
+fn offers(words: &[u64], style: Style, run: u32, seed: u32) -> [u8; 18] {
     let mut all = [0u8; 18];
     let mut n: usize = 0;
     while n < 17 {
-        all[n] = offer_at(s, style, run, seed, n);
+        all[n] = offer_at(words, style, run, seed, n);
         n += 1;
     }
     all
@@ -85,9 +90,9 @@ fn with_lengths(c: Call, offered: usize, lent: usize) -> Call {
 
 // A slot call with one fault: a length, an offer byte above 2, an offer from a domain that is not planned, or a byte
 // above 2 from such a one.
-fn slot_fault(c: Call, p: Plan, seed: u32, salt: u32) -> Call {
+fn slot_fault(c: Call, words: &[u64], seed: u32, salt: u32) -> Call {
     let x = draw::draw(seed, std::num::wrapping_add_u32(salt, 1));
-    let absent = domain_from(p, x, false);
+    let absent = domain_from(words, x, false);
     let above = if x / 32 % 4 == 0 {
         255
     } else {
@@ -104,7 +109,7 @@ fn slot_fault(c: Call, p: Plan, seed: u32, salt: u32) -> Call {
 }
 
 // A domain number, 0 and 17 up among them, some of which have the low bits of a planned one.
-fn any_domain(p: Plan, n: u64, x: u32) -> u64 {
+fn any_domain(words: &[u64], n: u64, x: u32) -> u64 {
     match x % 9 {
         0 => 0,
         1 => 17,
@@ -113,7 +118,7 @@ fn any_domain(p: Plan, n: u64, x: u32) -> u64 {
         4 => std::num::wrapping_add_u64(n, 65536),
         5 => std::num::wrapping_add_u64(n, 4294967296),
         6 => 18446744073709551615,
-        7 => domain_from(p, x / 16, false) as u64,
+        7 => domain_from(words, x / 16, false) as u64,
         _ => n,
     }
 }
@@ -134,7 +139,6 @@ fn any_amount(claim: u64, x: u32) -> u64 {
 
 fn with_yield(c: Call, domain: u64, k: u64) -> Call {
     let mut after = c;
-    after.yields = true;
     after.domain = domain;
     after.k = k;
     after
@@ -160,14 +164,13 @@ fn is_wrong(faults: u32, chosen: bool) -> bool {
 }
 
 // A yield by a planned domain, with so many faults: in its domain number, in its units, or in both.
-fn yield_of(c: Call, s: State, seed: u32, faults: u32) -> Call {
-    let p = s.plan;
-    let n = domain_from(p, draw::upto(seed, 10, 15), true);
-    let claim = forms::word(s, 9 * (n % 17) + 4);
+fn yield_of(c: Call, words: &[u64], seed: u32, faults: u32) -> Call {
+    let n = domain_from(words, draw::upto(seed, 10, 15), true);
+    let claim = forms::word(words, 9 * (n % 17) + 4);
     let x = draw::draw(seed, 12);
     let first = x / 16 % 2 == 0;
     let domain = if is_wrong(faults, first) {
-        any_domain(p, n as u64, x / 64)
+        any_domain(words, n as u64, x / 64)
     } else {
         n as u64
     };
@@ -188,34 +191,45 @@ fn faults_of(style: Style, seed: u32) -> u32 {
     if x < style.faults { 1 } else { 0 }
 }
 
-fn slot_of(c: Call, s: State, seed: u32, faults: u32) -> Call {
-    let p = s.plan;
+fn slot_of(c: Call, words: &[u64], seed: u32, faults: u32) -> Call {
     if faults == 0 {
         return c;
     }
-    let one = slot_fault(c, p, seed, 60);
+    let one = slot_fault(c, words, seed, 60);
     if faults == 1 {
         one
     } else {
-        slot_fault(one, p, seed, 70)
+        slot_fault(one, words, seed, 70)
     }
 }
 
-// The call of a step: a slot call, or a yield.
-pub fn call(s: State, style: Style, run: u32, seed: u32, yields: bool) -> Call {
+// What the call of a step is.
+pub fn kind_of(style: Style, seed: u32) -> u8 {
+    if draw::upto(seed, 6, 63) < style.hands {
+        return calls::HAND;
+    }
+    if draw::upto(seed, 1, 15) < style.yields {
+        calls::YIELD
+    } else {
+        calls::SLOT
+    }
+}
+
+// The call of a step; a plan that is handed in is no part of it.
+pub fn call(words: &[u64], style: Style, run: u32, seed: u32, what: u8) -> Call {
     let faults = faults_of(style, seed);
     let c = Call {
-        yields: false,
-        offers: offers(s, style, run, seed),
+        what,
+        offers: offers(words, style, run, seed),
         offered: 17,
         lent: 17,
         filled: draw::low(draw::draw(seed, 3)),
         domain: 0,
         k: 0,
     };
-    if yields {
-        yield_of(c, s, seed, faults)
-    } else {
-        slot_of(c, s, seed, faults)
+    match what {
+        calls::SLOT => slot_of(c, words, seed, faults),
+        calls::YIELD => yield_of(c, words, seed, faults),
+        _ => c,
     }
 }

@@ -1,128 +1,38 @@
-// The library's states and counts as the words of the model: row k / 9 and column k % 9 for word k.
+// The library's states, plans and counts as the words of the model, and back: the word of a row and a column is 9 * row + column.
+ghost use Prim.Native.Nat.{_≤_};
+use plan::Plan;
 use regulator::Counts;
 use regulator::State;
+use regulator::Waiting;
 use trial_kit::values;
 
-fn wide(x: u16) -> u64 {
-    x as u64
+// Where the plan in force begins, the plan beside the flag, and the plan at hand, which is opened or handed in and no part of
+// the state.
+pub const FORCE: usize = 0;
+
+pub const NEXT: usize = 153;
+
+pub const GIVEN: usize = 306;
+
+// The flag: whether a plan waits.
+pub const WAITS: usize = 154;
+
+// A word, 0 where there is none.
+pub fn word(words: &[u64], k: usize) -> u64 {
+    if k < words.len() { words[k] } else { 0 }
 }
 
-// What word k is: 0 to 8 a word of row 0, 9 to 17 one of a domain's row.
-fn what(k: usize) -> usize {
-    if k < 9 { k } else { 9 + k % 9 }
-}
-
-// A word of row 0.
-fn first_word(s: State, k: usize) -> u64 {
-    let p = s.plan;
-    match k {
-        0 => wide(p.period),
-        1 => wide(s.decided),
-        2 => s.closed as u64,
-        3 => wide(s.idle),
-        4 => wide(s.best),
-        5 => wide(s.stock),
-        6 => s.turn as u64,
-        7 => s.steps as u64,
-        _ => 0,
+pub fn put(words: &mut [u64], k: usize, value: u64) {
+    if k < words.len() {
+        words[k] = value;
     }
 }
 
-// A word of a domain's row; the plan has the first four.
-fn domain_word(s: State, k: usize) -> u64 {
-    let i = (k / 9 + 15) % 16;
-    let p = s.plan;
-    match k % 9 {
-        4 => wide(s.claim[i]),
-        5 => wide(s.reserved[i]),
-        6 => wide(s.reclaimed[i]),
-        7 => wide(s.yielded[i]),
-        8 => wide(s.writebacks[i]),
-        _ => values::word(p, (4 * i + k % 9) as u32) as u64,
-    }
-}
-
-// Word k of a state.
-pub fn word(s: State, k: usize) -> u64 {
-    if k < 9 {
-        first_word(s, k)
-    } else {
-        domain_word(s, k)
-    }
-}
-
-// Word k of the counts, where the model has it.
-pub fn count_word(c: Counts, k: usize) -> u64 {
-    let i = (k / 9 + 15) % 16;
-    match what(k) {
-        3 => wide(c.idle),
-        4 => wide(c.best),
-        7 => c.steps as u64,
-        14 => wide(c.reserved[i]),
-        15 => wide(c.reclaimed[i]),
-        16 => wide(c.yielded[i]),
-        17 => wide(c.writebacks[i]),
-        _ => 0,
-    }
-}
-
-fn with_first_word(s: State, k: usize, value: u64) -> State {
-    let mut after = s;
-    let x = (value % 65536) as u16;
-    let p = s.plan;
-    let changed = values::with_period(p, x as u32);
-    match k {
-        0 => after.plan = changed,
-        1 => after.decided = x,
-        2 => after.closed = (value % 4294967296) as u32,
-        3 => after.idle = x,
-        4 => after.best = x,
-        5 => after.stock = x,
-        6 => after.turn = value as usize,
-        7 => after.steps = (value % 4294967296) as u32,
-        _ => (),
-    }
-    after
-}
-
-fn with_domain_word(s: State, k: usize, value: u64) -> State {
-    let mut after = s;
-    let i = (k / 9 + 15) % 16;
-    let x = (value % 65536) as u16;
-    let p = s.plan;
-    let changed = values::with_word(p, (4 * i + k % 9) as u32, x as u32);
-    match k % 9 {
-        4 => after.claim[i] = x,
-        5 => after.reserved[i] = x,
-        6 => after.reclaimed[i] = x,
-        7 => after.yielded[i] = x,
-        8 => after.writebacks[i] = x,
-        _ => after.plan = changed,
-    }
-    after
-}
-
-// The state with word k put to a value, or to its low bits where the state has no more.
-pub fn with_word(s: State, k: usize, value: u64) -> State {
-    if k < 9 {
-        with_first_word(s, k, value)
-    } else {
-        with_domain_word(s, k, value)
-    }
-}
-
-pub fn put_state(to: &mut [u64], s: State) {
+// Puts words in the place of others.
+pub fn copy(to: &mut [u64], from: &[u64]) {
     let mut k: usize = 0;
     while k < to.len() {
-        to[k] = word(s, k);
-        k += 1;
-    }
-}
-
-pub fn put_counts(to: &mut [u64], c: Counts) {
-    let mut k: usize = 0;
-    while k < to.len() {
-        to[k] = count_word(c, k);
+        to[k] = word(from, k);
         k += 1;
     }
 }
@@ -139,4 +49,157 @@ pub fn same_words(a: &[u64], b: &[u64]) -> bool {
         k += 1;
     }
     true
+}
+
+fn wide(x: u16) -> u64 {
+    x as u64
+}
+
+fn low(x: u64) -> u16 {
+    (x % 65536) as u16
+}
+
+// Puts sixteen numbers, one in each row from a word on.
+fn put_numbers(to: &mut [u64], from: usize, numbers: [u16; 16])
+    requires { ⌜ from ≤ 17 ⌝ }
+{
+    let mut i: usize = 0;
+    while i < 16 {
+        put(to, from + 9 * i, wide(numbers[i]));
+        i += 1;
+    }
+}
+
+fn numbers(words: &[u64], from: usize) -> [u16; 16]
+    requires { ⌜ from ≤ 459 ⌝ }
+{
+    let mut all = [0u16; 16];
+    let mut i: usize = 0;
+    while i < 16 {
+        all[i] = low(word(words, from + 9 * i));
+        i += 1;
+    }
+    all
+}
+
+fn flags(words: &[u64], from: usize) -> [bool; 16]
+    requires { ⌜ from ≤ 459 ⌝ }
+{
+    let mut all = [false; 16];
+    let mut i: usize = 0;
+    while i < 16 {
+        all[i] = word(words, from + 9 * i) != 0;
+        i += 1;
+    }
+    all
+}
+
+// Puts a plan, from FORCE, NEXT or GIVEN on.
+pub fn put_plan(to: &mut [u64], from: usize, p: Plan)
+    requires { ⌜ from ≤ 306 ⌝ }
+{
+    put(to, from, wide(p.period));
+    let mut k: u32 = 0;
+    while k < 64 {
+        let at = from + 9 * (k / 4 + 1) as usize + (k % 4) as usize;
+        put(to, at, values::word(p, k) as u64);
+        k += 1;
+    }
+}
+
+pub fn plan_of(words: &[u64], from: usize) -> Plan
+    requires { ⌜ from ≤ 306 ⌝ }
+{
+    Plan {
+        period: low(word(words, from)),
+        planned: flags(words, from + 9),
+        reservation: numbers(words, from + 10),
+        reclaimcap: numbers(words, from + 11),
+        writebackcap: numbers(words, from + 12),
+    }
+}
+
+// Puts the numbers of the period's slots.
+fn put_slots(to: &mut [u64], decided: u16, idle: u16, best: u16, stock: u16, steps: u32) {
+    put(to, 1, wide(decided));
+    put(to, 3, wide(idle));
+    put(to, 4, wide(best));
+    put(to, 5, wide(stock));
+    put(to, 7, steps as u64);
+}
+
+// Puts what outlasts a period, and what waits.
+fn put_lasting(to: &mut [u64], closed: u32, turn: usize, w: Waiting) {
+    let p = w.plan;
+    put(to, 2, closed as u64);
+    put(to, 6, turn as u64);
+    put(to, WAITS, if w.given { 1 } else { 0 });
+    put_plan(to, NEXT, p);
+}
+
+// Puts a state; the words that it does not have stay.
+pub fn put_state(to: &mut [u64], s: State) {
+    let p = s.plan;
+    let claim = s.claim;
+    let reserved = s.reserved;
+    let reclaimed = s.reclaimed;
+    let yielded = s.yielded;
+    let writebacks = s.writebacks;
+    let waiting = s.waiting;
+    put_plan(to, FORCE, p);
+    put_slots(to, s.decided, s.idle, s.best, s.stock, s.steps);
+    put_lasting(to, s.closed, s.turn, waiting);
+    put_numbers(to, 13, claim);
+    put_numbers(to, 14, reserved);
+    put_numbers(to, 15, reclaimed);
+    put_numbers(to, 16, yielded);
+    put_numbers(to, 17, writebacks);
+}
+
+fn waiting_of(words: &[u64]) -> Waiting {
+    Waiting {
+        given: word(words, WAITS) != 0,
+        plan: plan_of(words, NEXT),
+    }
+}
+
+// The state of these words, of each as many bits as the state has.
+pub fn state_of(words: &[u64]) -> State {
+    State {
+        plan: plan_of(words, FORCE),
+        decided: low(word(words, 1)),
+        closed: (word(words, 2) % 4294967296) as u32,
+        idle: low(word(words, 3)),
+        best: low(word(words, 4)),
+        stock: low(word(words, 5)),
+        turn: word(words, 6) as usize,
+        claim: numbers(words, 13),
+        reserved: numbers(words, 14),
+        reclaimed: numbers(words, 15),
+        yielded: numbers(words, 16),
+        writebacks: numbers(words, 17),
+        steps: (word(words, 7) % 4294967296) as u32,
+        waiting: waiting_of(words),
+    }
+}
+
+// Cuts the words of a state to what it holds.
+pub fn fit(words: &mut [u64]) {
+    let s = state_of(words);
+    put_state(words, s);
+}
+
+// Puts the counts of a period where the model has them.
+pub fn put_counts(to: &mut [u64], c: Counts) {
+    let reserved = c.reserved;
+    let reclaimed = c.reclaimed;
+    let yielded = c.yielded;
+    let writebacks = c.writebacks;
+    put(to, 3, wide(c.idle));
+    put(to, 4, wide(c.best));
+    put(to, 7, c.steps as u64);
+    put_numbers(to, 14, reserved);
+    put_numbers(to, 15, reclaimed);
+    put_numbers(to, 16, yielded);
+    put_numbers(to, 17, writebacks);
 }

@@ -3,5 +3,7 @@ pub mod calls;
 pub mod changes;
 pub mod draws;
 pub mod forms;
+pub mod handing;
+pub mod marks;
 pub mod styles;
 pub mod sums;

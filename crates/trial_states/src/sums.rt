@@ -1,7 +1,6 @@
 // The sum of steps of a state, put at its bounds and off them. Ways 0 to 3 are the least, one less, the most and one more; the
 // others 0, all 32 bits, 65,536 more than the sum is, and 0 less the sum; both go round.
 use super::forms;
-use regulator::State;
 
 pub const LEAST: u32 = 0;
 
@@ -21,16 +20,18 @@ fn sum_in(idle: u64, decided: u64, sum: u64, way: u32) -> u64 {
     }
 }
 
-pub fn with_sum(s: State, way: u32) -> State {
-    let sum = sum_in(forms::word(s, 3), forms::word(s, 1), forms::word(s, 7), way);
-    forms::with_word(s, 7, sum)
+pub fn put_sum(words: &mut [u64], way: u32) {
+    let idle = forms::word(words, 3);
+    let decided = forms::word(words, 1);
+    let sum = forms::word(words, 7);
+    forms::put(words, 7, sum_in(idle, decided, sum, way));
 }
 
 // The first of ways 0 to 3 in which the sum stands, or 4.
-pub fn edge(s: State) -> usize {
-    let idle = forms::word(s, 3);
-    let decided = forms::word(s, 1);
-    let sum = forms::word(s, 7);
+pub fn edge(words: &[u64]) -> usize {
+    let idle = forms::word(words, 3);
+    let decided = forms::word(words, 1);
+    let sum = forms::word(words, 7);
     if sum == sum_in(idle, decided, sum, 0) {
         return 0;
     }

@@ -8,10 +8,10 @@ use Rattle.trial_calls.proofs.run.tried.Statement.{statement}
 use Rattle.trial_calls.proofs.run.tried.Tie as tie
 
 abbrev Inv-loop : tie.InvT-loop
-Inv-loop of style page₀ r₀ i₀ page r i = (i ≤ style .steps) × (length page ≡ 153)
+Inv-loop of style now₀ page₀ r₀ i₀ now page r i = (i ≤ style .steps) × ((length now ≡ 459) × (length page ≡ 306))
 
 abbrev μ-loop : tie.MeasureT-loop
-μ-loop of style page₀ r₀ i₀ page r i = style .steps - i
+μ-loop of style now₀ page₀ r₀ i₀ now page r i = style .steps - i
 
 pub tried-spec : {M : Type 1} → statement M
 tried-spec =
@@ -22,7 +22,11 @@ tried-spec =
     (λ c κs. search needs)
     (λ c. search needs)
     (λ c κs. search needs)
+    (λ c. search needs)
+    (λ c. search needs)
     (λ c κs. search needs)
+    (λ c κs. search needs)
+    (λ c. search needs)
     (λ c. search needs)
     (λ c. search needs)
     (λ c κs. search needs)

@@ -8,10 +8,10 @@ use Rattle.trial_calls.proofs.script.cases.Statement.{statement}
 use Rattle.trial_calls.proofs.script.cases.Tie as tie
 
 abbrev Inv-loop : tie.InvT-loop
-Inv-loop text page₀ s₀ at₀ page s at = length page ≡ 153
+Inv-loop text now₀ counts₀ page₀ s₀ at₀ now counts page s at = ((length now ≡ 459) × (length counts ≡ 153)) × (length page ≡ 306)
 
 abbrev μ-loop : tie.MeasureT-loop
-μ-loop text page₀ s₀ at₀ page s at = length text - at
+μ-loop text now₀ counts₀ page₀ s₀ at₀ now counts page s at = length text - at
 
 pub cases-spec : {M : Type 1} → statement M
 cases-spec =
@@ -19,8 +19,8 @@ cases-spec =
     (tie.spec
     Inv-loop
     μ-loop
-    (λ c κs. search needs)
-    (λ c κs. search needs)
+    (λ c. search needs)
+    (λ c. search needs)
     (λ c. search needs)
     (λ c. search needs)
     (λ c κs. search needs)

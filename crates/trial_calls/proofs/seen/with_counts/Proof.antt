@@ -6,10 +6,10 @@ use Rattle.trial_calls.proofs.seen.with_counts.Statement.{statement}
 use Rattle.trial_calls.proofs.seen.with_counts.Tie as tie
 
 abbrev Inv-loop : tie.InvT-loop
-Inv-loop c after₀ i₀ after i = i ≤ 16
+Inv-loop counts steps after₀ n₀ after n = n ≤ 17
 
 abbrev μ-loop : tie.MeasureT-loop
-μ-loop c after₀ i₀ after i = 16 - i
+μ-loop counts steps after₀ n₀ after n = 17 - n
 
 pub with-counts-spec : {M : Type 1} → statement M
 with-counts-spec =
@@ -19,13 +19,10 @@ with-counts-spec =
     μ-loop
     (λ c κs. search needs)
     (λ c κs. search needs)
-    (λ c. search needs)
-    (λ c. search needs)
+    (λ c κs. search needs)
     (λ c. search needs)
     (λ c κs. search needs)
     (λ c κs. search needs)
-    (λ c. search needs)
-    (λ c. search needs)
     (λ c κs. search needs)
     (λ c κs. search needs)
     (λ c. search needs)

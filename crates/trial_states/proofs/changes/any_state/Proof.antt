@@ -1,15 +1,17 @@
--- `trial_states::changes::any_state` draws 153 words and ends.
+-- `trial_states::changes::any_state` draws every word of a state in a slice whose length it keeps, and ends.
 -- Assumes nothing.
 use Prim.Native.Nat.{_≤_, _-_}
 use borrow.Author.Needs.{needs}
+use mathlib.Core.Path.{_≡_}
+use lib.ListN.{length}
 use Rattle.trial_states.proofs.changes.any_state.Statement.{statement}
 use Rattle.trial_states.proofs.changes.any_state.Tie as tie
 
 abbrev Inv-loop : tie.InvT-loop
-Inv-loop seed most after₀ k₀ after k = k ≤ 153
+Inv-loop words₀ seed most k₀ words k = (k ≤ 219) × (length words ≡ length words₀)
 
 abbrev μ-loop : tie.MeasureT-loop
-μ-loop seed most after₀ k₀ after k = 153 - k
+μ-loop words₀ seed most k₀ words k = 219 - k
 
 pub any-state-spec : {M : Type 1} → statement M
 any-state-spec =
@@ -20,10 +22,11 @@ any-state-spec =
     (λ c κs. search needs)
     (λ c. search needs)
     (λ c. search needs)
-    (λ c. search needs)
+    (λ c κs. search needs)
     (λ c κs. search needs)
     (λ c. search needs)
     (λ c κs. search needs)
+    (λ c. search needs)
     (λ c. search needs)
     (λ c. search needs)
     (λ c. search needs)

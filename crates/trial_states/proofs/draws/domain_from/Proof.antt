@@ -6,10 +6,10 @@ use Rattle.trial_states.proofs.draws.domain_from.Statement.{statement}
 use Rattle.trial_states.proofs.draws.domain_from.Tie as tie
 
 abbrev Inv-loop : tie.InvT-loop
-Inv-loop start planned p left₀ left = left ≤ 16
+Inv-loop words start planned left₀ left = left ≤ 16
 
 abbrev μ-loop : tie.MeasureT-loop
-μ-loop start planned p left₀ left = 16 - left
+μ-loop words start planned left₀ left = 16 - left
 
 pub domain-from-spec : {M : Type 1} → statement M
 domain-from-spec =
@@ -20,7 +20,7 @@ domain-from-spec =
     (λ c. search needs)
     (λ c κs. search needs)
     (λ c. search needs)
-    (λ c. search needs)
+    (λ c κs. search needs)
     (λ c. search needs)
     (λ c. search needs)
     (λ c. search needs)

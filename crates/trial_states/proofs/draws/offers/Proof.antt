@@ -8,10 +8,10 @@ use Rattle.trial_states.proofs.draws.offers.Statement.{statement}
 use Rattle.trial_states.proofs.draws.offers.Tie as tie
 
 abbrev Inv-loop : tie.InvT-loop
-Inv-loop s style run seed all₀ n₀ all n = (n ≤ 17) × (length all ≡ 18)
+Inv-loop words style run seed all₀ n₀ all n = (n ≤ 17) × (length all ≡ 18)
 
 abbrev μ-loop : tie.MeasureT-loop
-μ-loop s style run seed all₀ n₀ all n = 17 - n
+μ-loop words style run seed all₀ n₀ all n = 17 - n
 
 pub offers-spec : {M : Type 1} → statement M
 offers-spec =

@@ -1,28 +1,28 @@
--- `trial_states::forms::put_state` stays within the slice, whose length it keeps, and ends.
+-- `trial_states::forms::flags` fills sixteen flags and ends.
 -- Assumes nothing.
 use Prim.Native.Nat.{_≤_, _-_}
 use borrow.Author.Needs.{needs}
 use mathlib.Core.Path.{_≡_}
 use lib.ListN.{length}
-use Rattle.trial_states.proofs.forms.put_state.Statement.{statement}
-use Rattle.trial_states.proofs.forms.put_state.Tie as tie
+use Rattle.trial_states.proofs.forms.flags.Statement.{statement}
+use Rattle.trial_states.proofs.forms.flags.Tie as tie
 
 abbrev Inv-loop : tie.InvT-loop
-Inv-loop to₀ s k₀ to k = (k ≤ length to₀) × (length to ≡ length to₀)
+Inv-loop words from all₀ i₀ all i = (i ≤ 16) × (length all ≡ 16)
 
 abbrev μ-loop : tie.MeasureT-loop
-μ-loop to₀ s k₀ to k = length to₀ - k
+μ-loop words from all₀ i₀ all i = 16 - i
 
-pub put-state-spec : {M : Type 1} → statement M
-put-state-spec =
+pub flags-spec : {M : Type 1} → statement M
+flags-spec =
     tie.close
     (tie.spec
     Inv-loop
     μ-loop
     (λ c. search needs)
+    (λ c. search needs)
+    (λ c. search needs)
     (λ c κs. search needs)
-    (λ c. search needs)
-    (λ c. search needs)
     (λ c. search needs)
     (λ c. search needs)
     (λ c. search needs)
