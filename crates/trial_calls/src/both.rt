@@ -1,5 +1,5 @@
-// One call of the library and of the model on the same state, compared; and its entry into the ledger. A state, with the plan at
-// hand behind it, and a slot's counts lie in lent words; what the library answers takes their place.
+// One call of the library and of the model on the same state, compared; and its entry into the ledger. A state, with the plan
+// at hand behind it, and a slot's counts lie in lent words; what the library answers takes their place.
 use model_calls::Decision;
 use model_calls::Entry;
 use model_calls::cells;
@@ -167,7 +167,7 @@ fn model_call(words: &mut [u64], counts: &mut [u64], c: Call, p: Plan) -> Told {
     match what {
         calls::SLOT => model_slot(words, counts, c),
         calls::YIELD => refusal(model_calls::take_yield(words, c.domain, c.k), 0),
-        _ => model_plan(words, p, c.what == calls::OPEN),
+        _ => model_plan(words, p, what == calls::OPEN),
     }
 }
 
@@ -221,6 +221,6 @@ pub fn entered(page: &mut [u64], now: &[u64], counts: &[u64], c: Call, t: Told) 
     match what {
         calls::SLOT => entered_slot(page, counts, c, t),
         calls::YIELD => model_calls::enter_yield(page, t.number != 0, c.domain, c.k),
-        _ => entered_plan(page, p, c.what == calls::OPEN, t.number != 0),
+        _ => entered_plan(page, p, what == calls::OPEN, t.number != 0),
     }
 }

@@ -43,7 +43,7 @@ fn counted(r: Run, of: Case, v: Verdict) -> Run {
     after
 }
 
-// The run with what a plan showed that was handed in on a state of these words, where the call is that.
+// The run with what a plan showed that was handed in on a state of these words, where the call is such.
 fn with_plan(r: Run, words: &[u64], what: u8, number: u32) -> Run {
     if what != calls::HAND {
         return r;
@@ -56,7 +56,7 @@ fn with_plan(r: Run, words: &[u64], what: u8, number: u32) -> Run {
     after
 }
 
-// The run with what a slot call or a yield showed of such plans.
+// The run with what a slot call or a yield showed of such plans; an opening has no plan before it.
 fn with_marks(r: Run, words: &[u64], c: Call, t: Told) -> Run {
     let mut after = r;
     let so_far = r.seen;
@@ -97,7 +97,8 @@ pub fn called(
     with_plan(with_marks(after, words, c, t), words, c.what, t.number)
 }
 
-// The run with a changed state more seen, whether it still adds up, where its sum of steps stands, and what lies beside its flag.
+// The run with a changed state more seen, whether it still adds up, where its sum of steps stands, and what lies beside its
+// flag.
 fn with_change_seen(r: Run, words: &[u64], adds: bool) -> Run {
     let mut after = r;
     let so_far = r.seen;
@@ -136,8 +137,8 @@ fn with_other(r: Run, words: &mut [u64], of: Case, style: Style, seed: u32, what
     with_plan(counted(r, of, v), &before, what, v.number)
 }
 
-// A slot call on a changed state, a yield on what it answers, and a plan handed in on what that answers, for the kinds that have
-// such states; the run's own state stays.
+// A slot call on a changed state, a yield on what it answers, and a plan handed in on what that answers, for the kinds that
+// have such states; the run's own state stays.
 fn with_changed(r: Run, now: &[u64], of: Case, style: Style, seed: u32) -> Run {
     let mut words = [0u64; 459];
     let mut before = [0u64; 459];
@@ -155,7 +156,7 @@ fn with_changed(r: Run, now: &[u64], of: Case, style: Style, seed: u32) -> Run {
         draw::draw(seed, 4),
         calls::YIELD,
     );
-    with_other(two, &mut words, of, style, seed, calls::HAND)
+    with_other(two, &mut words, of, style, draw::draw(seed, 9), calls::HAND)
 }
 
 // A call of a run, entered into the ledger.
@@ -182,7 +183,7 @@ pub fn tried(before: Run, of: Case, style: Style) -> Run {
     let mut page = [0u64; 306];
     let p = styles::plan_of(style.plans, of.case, of.seed);
     forms::put_plan(&mut now, forms::GIVEN, p);
-    let mut r = with_call(before, &mut now, &mut page, of, calls::of_plan(calls::OPEN));
+    let mut r = with_call(before, &mut now, &mut page, of, calls::opening());
     let mut i: u32 = 0;
     while i < style.steps {
         let next = step(r, &mut now, &mut page, of, style, i);

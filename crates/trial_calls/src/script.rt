@@ -118,7 +118,7 @@ fn refusal_at(letter: u8) -> usize {
     }
 }
 
-// A call on a state of these words, whose outcome is stated.
+// The script after a call on a state of these words.
 fn called(
     s: Script,
     words: &[u64],
@@ -153,7 +153,7 @@ fn call_line(
     call_stated(after, text, at, o)
 }
 
-// The outcome of a call.
+// The refusal of a call, and the rest of its outcome.
 fn call_stated(s: Script, text: &[u8], at: usize, o: Outcome) -> Script {
     let v = o.verdict;
     let due = lines::small(text, at, refusal_at(lines::byte(text, at)), 2);

@@ -34,8 +34,8 @@ pub const EDGES: usize = 16;
 
 const LARGEST: usize = 21;
 
-// Of plans handed in: when they were taken and what they were, and what other calls showed of them; the domains that kept asking
-// under one; and changed states by what lies beside their flag.
+// Of plans handed in: when they were taken and what they were, and what other calls showed of them; the domains that kept
+// asking under one; and changed states by what lies beside their flag.
 pub const PLANS: usize = 22;
 
 pub const CALLS: usize = 35;
@@ -136,7 +136,8 @@ pub fn with_call(seen: Seen, what: u8, t: Told, e: Entry, counts: &[u64], renewe
     }
 }
 
-fn say_name(k: usize) {
+// The lines before those of plans handed in.
+fn say_first(k: usize) {
     say_nth(
         b"verdict 0\n\
         verdict 1, slots granted\n\
@@ -159,8 +160,15 @@ fn say_name(k: usize) {
         changed states whose sum of steps is the most for their slots\n\
         changed states whose sum of steps is one more\n\
         changed states whose sum of steps is another\n\
-        largest sum of steps of a completed period\n\
-        plans handed in and taken at T 0\n\
+        largest sum of steps of a completed period\n",
+        k,
+    );
+}
+
+// The lines of plans handed in, from 0 on.
+fn say_of_plans(k: usize) {
+    say_nth(
+        b"plans handed in and taken at T 0\n\
         plans handed in and taken in the middle of a period\n\
         plans handed in and taken at T P - 1\n\
         plans handed in and taken with P 1\n\
@@ -192,6 +200,14 @@ fn say_name(k: usize) {
         changed states with such a plan that add up\n",
         k,
     );
+}
+
+fn say_name(k: usize) {
+    if k < PLANS {
+        say_first(k);
+    } else {
+        say_of_plans(k - PLANS);
+    }
 }
 
 // How often each number of steps was told.

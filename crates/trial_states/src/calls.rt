@@ -20,10 +20,10 @@ pub struct Call {
     pub k: u64,
 }
 
-// A call that is neither a slot call nor a yield.
-pub fn of_plan(what: u8) -> Call {
+// Opening the plan at hand.
+pub fn opening() -> Call {
     Call {
-        what,
+        what: OPEN,
         offers: [0; 18],
         offered: 17,
         lent: 17,

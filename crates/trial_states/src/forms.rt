@@ -1,4 +1,4 @@
-// The library's states, plans and counts as the words of the model, and back: the word of a row and a column is 9 * row + column.
+// The library's states, plans and counts as the words of the model, and back: word 9 * row + column.
 ghost use Prim.Native.Nat.{_≤_};
 use plan::Plan;
 use regulator::Counts;

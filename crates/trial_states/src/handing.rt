@@ -31,8 +31,8 @@ fn index_from(words: &[u64], start: u32, planned: bool) -> u32
     ((draws::domain_from(words, start, planned) + 15) % 16) as u32
 }
 
-// The plan in force: again, with a domain more or less, with other numbers for one, with the numbers of one for another, or with
-// a slot more or less.
+// The plan in force: again, with a domain more or less, with other numbers for one, with the numbers of one for another, or
+// with a slot more or less.
 fn edited(words: &[u64], seed: u32) -> Plan {
     let p = forms::plan_of(words, forms::FORCE);
     let period = values::wide(p.period);
@@ -56,7 +56,7 @@ fn edited(words: &[u64], seed: u32) -> Plan {
     }
 }
 
-// The plan refused with 2, 9 or 10.
+// The plan as it would be refused with 2, 9 or 10.
 fn spoiled(p: Plan, seed: u32) -> Plan {
     plans::spoiled(p, draw::upto(seed, 89, 3), seed)
 }

@@ -125,7 +125,7 @@ pub fn of_call(words: &[u64], c: Call, number: u32, complete: bool, before: u32)
     ]
 }
 
-// The plan at hand, handed in: whether it is taken at T 0, in the middle, at T P - 1, and with P 1; in the place of another, as
+// The plan at hand, handed in and taken: whether at T 0, in the middle, at T P - 1, and with P 1; in the place of another, as
 // the plan in force again, with a domain more, without one that has claim left, with other numbers for one, and while claim,
 // stock and writebacks stand.
 fn of_taken(words: &[u64]) -> [bool; 13] {
@@ -170,8 +170,8 @@ pub fn of_plan(words: &[u64], number: u32) -> [bool; 13] {
     all
 }
 
-// A changed state, what its plan beside the flag would be refused with, and whether it adds up: whether that plan waits, and then
-// would be refused with 2, 9 and 10; whether there is one that does not wait, would be refused, and the state adds up.
+// A changed state, what its plan beside the flag would be refused with, and whether it adds up: whether that plan waits, and
+// then would be refused with 2, 9 and 10; whether there is one that does not wait, would be refused, and the state adds up.
 pub fn of_change(words: &[u64], number: u32, adds: bool) -> [bool; 7] {
     let waits = forms::word(words, forms::WAITS) != 0;
     let some = forms::word(words, forms::NEXT) | domains(words, COMING) as u64;

@@ -1,5 +1,5 @@
-// How each kind of run goes: its plans, its length, and how often there are offers, writebacks, yields, faults and plans handed
-// in.
+// How each kind of run goes: its plans, its length, and how often there are offers, writebacks, yields, faults and plans
+// handed in.
 use trial_kit::styles;
 
 // Weights are out of 16, that of plans handed in out of 64. Offers of weight 0 are none at all, faults above 16 two at once.
