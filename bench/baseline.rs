@@ -1,5 +1,5 @@
-//! The replay program of document 01 in Rust, with the sum of steps of document 02's Point 9, written for
-//! speed: what the bench holds `replay` against.
+//! The replay program of document 01 in Rust, with the writeback reservations and the sum of steps of document
+//! 02's Points 6 and 9, written for speed: what the bench holds `replay` against.
 //!
 //! Lines are read where they lie in one block of input, and output leaves in one block, so memory is the same
 //! for any script and any line. All domains are handled at once by bit masks (bit n is number n), and masks
@@ -35,6 +35,7 @@ struct Domain {
     reservation: u16,
     reclaim_cap: u16,
     writeback_cap: u16,
+    writeback_reservation: u16,
 }
 
 struct Plan {
@@ -89,6 +90,7 @@ fn read_plan(file: &[u8]) -> Result<Plan, PlanRefusal> {
             reservation: u16_at(record, 4),
             reclaim_cap: u16_at(record, 6),
             writeback_cap: u16_at(record, 8),
+            writeback_reservation: u16_at(record, 10),
         };
         if domain.number == 0 || domain.number > 16 {
             return refuse(6, index);
@@ -96,7 +98,7 @@ fn read_plan(file: &[u8]) -> Result<Plan, PlanRefusal> {
         if by_number[domain.number].is_some() {
             return refuse(7, index);
         }
-        if record[3] != 0 || any_set(&record[10..]) {
+        if record[3] != 0 || any_set(&record[12..]) {
             return refuse(8, index);
         }
         if domain.reservation > period
@@ -105,11 +107,15 @@ fn read_plan(file: &[u8]) -> Result<Plan, PlanRefusal> {
         {
             return refuse(9, index);
         }
+        if domain.writeback_reservation > domain.writeback_cap {
+            return refuse(11, index);
+        }
         by_number[domain.number] = Some(domain);
         index = u16_at(record, 0) as usize;
     }
     let domains: Vec<Domain> = by_number.iter().flatten().copied().collect();
-    if domains.iter().map(|d| d.reservation as u32).sum::<u32>() > period as u32 {
+    let reserved = |d: &Domain| d.reservation as u32 + d.writeback_reservation as u32;
+    if domains.iter().map(reserved).sum::<u32>() > period as u32 {
         return refuse(10, 0);
     }
     Ok(Plan { period, domains })
@@ -180,8 +186,9 @@ impl Output {
 
 // ---------------------------------------------------------------------------------------- regulator
 
-/// What is kept for a number. `without_claim` counts the passes that took no claim: a domain's reclaimed
-/// passes, best effort at 0, idle slots at 17. Reserved passes are Q - claim - yielded, so they are not kept.
+/// What is kept for a number. `without_claim` counts the slots that took no claim and were no domain's
+/// writeback: a domain's reclaimed passes, best effort at 0, idle slots at 17. Reserved passes are Q - claim -
+/// yielded, and the writeback claim is the writeback reservation less the writebacks, or 0: neither is kept.
 #[derive(Clone, Copy)]
 struct Row {
     claim: u32,
@@ -190,6 +197,7 @@ struct Row {
     writebacks: u32,
     reclaim_cap: u32,
     writeback_cap: u32,
+    writeback_reservation: u32,
 }
 
 /// Caps that no count reaches: for the rows of best effort and of idle slots.
@@ -202,6 +210,7 @@ const EMPTY_ROW: Row = Row {
     writebacks: 0,
     reclaim_cap: NO_CAP,
     writeback_cap: NO_CAP,
+    writeback_reservation: NO_CAP,
 };
 
 struct Regulator {
@@ -218,13 +227,15 @@ struct Regulator {
 #[derive(Clone, Copy)]
 struct Period {
     left: u32,
-    /// Slots left less all claims.
+    /// Slots left less all claims of both kinds.
     loose: i32,
     stock: u32,
     /// Numbers asked and passed by, over the slots decided.
     steps: u32,
-    /// Numbers with claim above 0; with reclaimed passes below R; with writebacks below W, and best effort.
+    /// Numbers with claim above 0; with writeback claim above 0; with reclaimed passes below R; with writebacks
+    /// below W, and best effort.
     has_claim: u32,
+    has_writeback_claim: u32,
     may_reclaim: u32,
     has_room: u32,
     /// 32 long, so that an index of five bits needs no check.
@@ -244,20 +255,23 @@ impl Regulator {
             stock: 0,
             steps: 0,
             has_claim: 0,
+            has_writeback_claim: 0,
             may_reclaim: 0,
             has_room: BEST_EFFORT_BIT,
             rows: [EMPTY_ROW; 32],
         };
         let mut planned = 0;
         for d in &plan.domains {
-            fresh.loose -= d.reservation as i32;
+            fresh.loose -= d.reservation as i32 + d.writeback_reservation as i32;
             fresh.has_claim |= bit_if(d.reservation > 0, d.number);
+            fresh.has_writeback_claim |= bit_if(d.writeback_reservation > 0, d.number);
             fresh.may_reclaim |= bit_if(d.reclaim_cap > 0, d.number);
             fresh.has_room |= bit_if(d.writeback_cap > 0, d.number);
             fresh.rows[d.number] = Row {
                 claim: d.reservation as u32,
                 reclaim_cap: d.reclaim_cap as u32,
                 writeback_cap: d.writeback_cap as u32,
+                writeback_reservation: d.writeback_reservation as u32,
                 ..EMPTY_ROW
             };
             planned |= 1 << d.number;
@@ -280,11 +294,12 @@ impl Regulator {
     #[inline(always)]
     fn slot(&mut self, accesses: u32, writebacks: u32) -> bool {
         let p = &mut self.now;
-        let wanting = accesses | writebacks & p.has_room;
-        let on_claim = wanting & p.has_claim;
+        let on_claim = accesses & p.has_claim | writebacks & p.has_writeback_claim;
         let blocked = p.loose <= 0 && on_claim != 0;
         let reclaiming = if p.stock > 0 { p.may_reclaim } else { 0 };
-        let free = wanting & (p.has_claim | reclaiming | BEST_EFFORT_BIT);
+        // Whoever has writeback claim is below W too.
+        let free =
+            accesses & (p.has_claim | reclaiming | BEST_EFFORT_BIT) | writebacks & p.has_room;
         let passing = if blocked { on_claim } else { free };
 
         let from_turn = passing >> self.turn << self.turn;
@@ -299,12 +314,14 @@ impl Regulator {
 
         // Sums of 0 and 1 in place of branches: which kind of pass it is cannot be foreseen.
         let row = &mut p.rows[n & 31];
-        let claimed = p.has_claim >> n & 1;
-        row.claim -= claimed;
-        row.without_claim += 1 - claimed;
-        row.writebacks += writebacks >> n & 1;
-        p.stock -= (DOMAIN_BITS & !p.has_claim) >> n & 1;
+        let claimed = on_claim >> n & 1;
+        let writeback = (writebacks & DOMAIN_BITS) >> n & 1;
+        row.claim -= claimed & !writeback;
+        row.without_claim += 1 - (claimed | writeback);
+        row.writebacks += writeback;
+        p.stock -= (accesses & DOMAIN_BITS & !on_claim) >> n & 1;
         p.has_claim &= !bit_if(row.claim == 0, n);
+        p.has_writeback_claim &= !bit_if(row.writebacks == row.writeback_reservation, n);
         p.may_reclaim &= !bit_if(row.without_claim == row.reclaim_cap, n);
         p.has_room &= !bit_if(row.writebacks == row.writeback_cap, n);
         p.loose -= 1 - claimed as i32;

@@ -30,30 +30,35 @@ def record(*fields):
 
 
 def plan_bytes(period, domains):
-    """domains: a list of (number, reservation, reclaim cap, writeback cap)."""
+    """domains: a list of (number, reservation, reclaim cap, writeback cap, writeback reservation)."""
     parts = [record((0, 2, period), (2, 2, 1 if domains else 0))]
-    for index, (number, q, r, w) in enumerate(domains, 1):
+    for index, (number, q, r, w, v) in enumerate(domains, 1):
         following = index + 1 if index < len(domains) else 0
-        parts.append(record((0, 2, following), (2, 1, number), (4, 2, q), (6, 2, r), (8, 2, w)))
+        parts.append(record((0, 2, following), (2, 1, number), (4, 2, q), (6, 2, r), (8, 2, w), (10, 2, v)))
     return b"".join(parts)
 
 
 def shares(rng, period, count):
-    """Reservations of `count` domains that sum to at most the period, most of it reserved."""
+    """What `count` domains have reserved, of both kinds; it sums to at most the period, and to most of it."""
     weights = [rng.random() + 0.2 for _ in range(count)]
     spent = period * rng.uniform(0.6, 0.95)
     return [int(spent * w / sum(weights)) for w in weights]
 
 
 def drawn_plan(rng, period, numbers):
-    return [
-        (number, q, rng.randint(0, period // 8), rng.randint(0, max(1, q // 2)))
-        for number, q in zip(numbers, shares(rng, period, len(numbers)))
-    ]
+    domains = []
+    for number, share in zip(numbers, shares(rng, period, len(numbers))):
+        r = rng.randint(0, period // 8)
+        w = rng.randint(0, max(1, share // 2))
+        # None of the writeback cap, half of it, or all of it is reserved, by turns; the rest of
+        # the share is for accesses.
+        v = min(share, w * (number % 3) // 2)
+        domains.append((number, share - v, r, w, v))
+    return domains
 
 
 def draw_offers(rng, numbers):
-    """One slot line's digits: an access from about two in five, a writeback from one in seven."""
+    """One slot line's digits: an access from three in eight, a writeback from one in eight."""
     digits = ["0"] * 17
     for n in numbers:
         digits[n] = "0001110120001102"[rng.getrandbits(4)]
@@ -79,31 +84,43 @@ class Run:
         self.left = self.period
         self.stock = 0
         self.claim = [0] * 17
+        self.writeback_claim = [0] * 17
         self.reclaims_left = [0] * 17
         self.writebacks_left = [0] * 17
-        for number, q, r, w in self.domains:
+        for number, q, r, w, v in self.domains:
             self.claim[number] = q
+            self.writeback_claim[number] = v
             self.reclaims_left[number] = r
             self.writebacks_left[number] = w
         self.has_claim = sum(1 << n for n in range(17) if self.claim[n])
+        self.has_writeback_claim = sum(1 << n for n in range(17) if self.writeback_claim[n])
         self.may_reclaim = sum(1 << n for n in range(17) if self.reclaims_left[n])
         self.has_room = 1 | sum(1 << n for n in range(17) if self.writebacks_left[n])
-        self.loose = self.period - sum(self.claim)
+        self.loose = self.period - sum(self.claim) - sum(self.writeback_claim)
 
     def slot(self, accesses, writebacks):
-        wanting = accesses | writebacks & self.has_room
-        on_claim = wanting & self.has_claim
+        on_claim = accesses & self.has_claim | writebacks & self.has_writeback_claim
         if self.loose <= 0 and on_claim:
             passing = on_claim
         else:
-            passing = wanting & (self.has_claim | 1 | (self.may_reclaim if self.stock else 0))
+            passing = accesses & (self.has_claim | 1 | (self.may_reclaim if self.stock else 0))
+            passing |= writebacks & self.has_room
         asked = passing >> self.turn << self.turn or passing
         if asked:
             bit = asked & -asked
             n = bit.bit_length() - 1
             self.turn = n + 1 if n < 16 else 0
-            if self.has_claim & bit:
+            if on_claim & bit:
                 self.loose += 1
+            if n and writebacks & bit:
+                if on_claim & bit:
+                    self.writeback_claim[n] -= 1
+                    if not self.writeback_claim[n]:
+                        self.has_writeback_claim ^= bit
+                self.writebacks_left[n] -= 1
+                if not self.writebacks_left[n]:
+                    self.has_room ^= bit
+            elif on_claim & bit:
                 self.claim[n] -= 1
                 if not self.claim[n]:
                     self.has_claim ^= bit
@@ -112,10 +129,6 @@ class Run:
                 self.reclaims_left[n] -= 1
                 if not self.reclaims_left[n]:
                     self.may_reclaim ^= bit
-            if n and writebacks & bit:
-                self.writebacks_left[n] -= 1
-                if not self.writebacks_left[n]:
-                    self.has_room ^= bit
         self.loose -= 1
         self.left -= 1
         if not self.left:
@@ -174,7 +187,7 @@ def shape_plan(rng, shape):
         numbers = sorted(rng.sample(range(1, 17), rng.randint(4, 12)))
         return period, drawn_plan(rng, period, numbers), 0.05
     if shape == "short":
-        return 16, [(1, 5, 2, 3), (2, 4, 2, 4), (7, 3, 1, 0), (16, 1, 3, 2)], 0.02
+        return 16, [(1, 4, 2, 3, 1), (2, 2, 2, 4, 2), (7, 3, 1, 0, 0), (16, 1, 3, 2, 0)], 0.02
     if shape == "none":
         return 64, [], 0
     sys.exit("no such shape: " + shape)

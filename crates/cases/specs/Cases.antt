@@ -29,6 +29,10 @@ head low high = low ∷ high ∷ 1 ∷ 0 ∷ replicate 12 0
 abbrev domain : ℕ → ℕ → ℕ → ℕ → ℕ → ℕ → List ℕ
 domain next number byte3 Q R W = next ∷ 0 ∷ number ∷ byte3 ∷ Q ∷ 0 ∷ R ∷ 0 ∷ W ∷ 0 ∷ replicate 6 0
 
+-- Document 02, Point 6: a domain record with a writeback reservation; `byte12` is 0 in a good one
+abbrev writer : (next number Q R W reservation byte12 : ℕ) → List ℕ
+writer next number Q R W reservation byte12 = next ∷ 0 ∷ number ∷ 0 ∷ Q ∷ 0 ∷ R ∷ 0 ∷ W ∷ 0 ∷ reservation ∷ 0 ∷ byte12 ∷ replicate 3 0
+
 -- plan A: P 4; domain 1 has Q 2, R 1, W 4; domain 2 has Q 1, R 0, W 0
 abbrev pub planA : List ℕ
 planA = head 4 0 ++ (domain 2 1 0 2 1 4 ++ domain 0 2 0 1 0 0)
@@ -66,6 +70,14 @@ sixteenWhole = head 0 16 ++ (recordsFrom (λ (k : ℕ). whole (k + 1) k) 1 15 ++
     whole : ℕ → ℕ → List ℕ
     whole next number = next ∷ 0 ∷ number ∷ 0 ∷ 0 ∷ 16 ∷ replicate 10 0
 
+-- plan D: P 6; domain 1 has Q 2, R 0, W 2 and a writeback reservation of 1; domain 2 has Q 2, R 0, W 1 and none. First with another Q
+-- of domain 2, and of domain 1 another W, writeback reservation and byte 12.
+abbrev fileD : (Q W reservation byte12 : ℕ) → List ℕ
+fileD Q W reservation byte12 = head 6 0 ++ (writer 2 1 2 0 W reservation byte12 ++ writer 0 2 Q 0 1 0 0)
+
+abbrev pub planD : List ℕ
+planD = fileD 2 2 1 0
+
 -- what plan A is read as, with another period or Q of domain 1
 abbrev valueOf : ℕ → ℕ → Plan
 valueOf P Q =
@@ -75,6 +87,7 @@ valueOf P Q =
       reservation = Q ∷ 1 ∷ replicate 14 0;
       reclaimcap = 1 ∷ replicate 15 0;
       writebackcap = 4 ∷ replicate 15 0;
+      writebackreservation = replicate 16 0;
     }
 
 abbrev accepted : ℕ → ℕ → Outcome
@@ -161,6 +174,7 @@ summing steps =
       writebacks = replicate 16 0;
       steps = steps;
       waiting = noneWaiting;
+      writebackclaim = replicate 16 0;
     }
 
 -- a yield of 1 by domain 1 there: 0, or 30 and nothing moves
@@ -180,6 +194,7 @@ secondPass Q1 Q3 =
       reservation = domains Q1 0 Q3;
       reclaimcap = domains 0 0 1;
       writebackcap = replicate 16 0;
+      writebackreservation = replicate 16 0;
     }
 
 abbrev planB : Plan
@@ -206,6 +221,7 @@ stateOf p decided closed best turn claim reserved steps waiting =
       writebacks = replicate 16 0;
       steps = steps;
       waiting = waiting;
+      writebackclaim = p .writebackreservation;
     }
 
 -- plan A in its first period, after a slot or more, the first of them best effort's
@@ -261,6 +277,70 @@ handingIn =
     ∷ offer3 1 1 1
     ∷ offer3 1 1 1
     ∷ []
+
+-- what plan D is read as, with another Q of domain 2, other writeback caps of domains 1 and 2, and other writeback reservations
+abbrev valueD : (Q W1 W2 : ℕ) → (reservations : List ℕ) → Plan
+valueD Q W1 W2 reservations =
+    record {
+      period = 6;
+      planned = true ∷ true ∷ replicate 14 false;
+      reservation = domains 2 Q 0;
+      reclaimcap = replicate 16 0;
+      writebackcap = domains W1 W2 0;
+      writebackreservation = reservations;
+    }
+
+abbrev readD : Plan
+readD = valueD 2 2 1 (domains 1 0 0)
+
+-- plan D in its first period, without idle slots and yields
+abbrev inD : (decided best turn : ℕ) → (claim reserved writebacks : List ℕ) → (steps : ℕ) → (writebackclaim : List ℕ) → State
+inD decided best turn claim reserved writebacks steps writebackclaim =
+    record {
+      plan = readD;
+      decided = decided;
+      closed = 0;
+      idle = 0;
+      best = best;
+      stock = 0;
+      turn = turn;
+      claim = claim;
+      reserved = reserved;
+      reclaimed = replicate 16 0;
+      yielded = replicate 16 0;
+      writebacks = writebacks;
+      steps = steps;
+      waiting = noneWaiting;
+      writebackclaim = writebackclaim;
+    }
+
+-- plan D with these writebacks and writeback claims, of which no access has passed; and a yield of 1 by domain 1 there
+abbrev wrote : (decided : ℕ) → (writebacks writebackclaim : List ℕ) → State
+wrote decided writebacks writebackclaim = inD decided 0 3 (domains 2 2 0) (domains 0 0 0) writebacks 0 writebackclaim
+
+abbrev yieldsOf : ℕ → ℤ → Outcome
+yieldsOf n loose = answers 0 (yields n loose ∷ [])
+
+-- Point 6: a period of plan D with writebacks on claim, on neither, blocked and at the cap
+abbrev writebacks : List Call
+writebacks = offer 0 0 2 ∷ offer 1 2 0 ∷ offer 1 2 1 ∷ offer 1 2 0 ∷ offer 0 2 2 ∷ offer 1 1 1 ∷ []
+
+-- its counts: best effort 1, no pass and two writebacks of domain 1, two passes and a writeback of domain 2
+abbrev countsD : Counts
+countsD =
+    record {
+      idle = 0;
+      best = 1;
+      reserved = domains 0 2 0;
+      reclaimed = replicate 16 0;
+      yielded = replicate 16 0;
+      writebacks = domains 2 1 0;
+      steps = 31;
+    }
+
+-- a period of plan D in which domain 1 asks for a kind of which it has claim left, as long as it has either
+abbrev pub askingBoth : List Call
+askingBoth = replicate 2 (offer 1 2 1) ++ replicate 4 (offer 1 1 1)
 
 -- "four times `s 11100000000000000`, then `y 1 1`, three times the same slot line, then `s 01000000000000000`"
 abbrev pub script : List Call
@@ -442,6 +522,73 @@ cases =
     ∷ record {
       input = handed (startA 0 (record { given = false; plan = valueOf 4 4 })) planB;
       outcome = hands (answering 0 0 (startA 0 (awaiting planB)));
+    }
+    -- Point 6: "Bytes 10-11 of a domain record hold a writeback reservation, 0 in older plans, and leave check 8"
+    ∷ record { input = file planD; outcome = reading (acceptedReading readD) }
+    ∷ record { input = file (fileD 2 2 3 1); outcome = refused 8 1 }
+    -- "11 the writeback reservation is above W, place as for 9, checked right after it": 3 is below P; 8 and W 7 are not
+    ∷ record { input = file (fileD 2 2 3 0); outcome = refused 11 1 }
+    ∷ record { input = file (fileD 2 7 8 0); outcome = refused 9 1 }
+    -- "Number 10 now sums both reservations": 2 + 2 + 2 is P, and 7 is above it; so do the sums told
+    ∷ record { input = file (fileD 2 2 2 0); outcome = reading (acceptedReading (valueD 2 2 1 (domains 2 0 0))) }
+    ∷ record { input = file (fileD 3 2 2 0); outcome = refused 10 0 }
+    ∷ record { input = summed planD; outcome = tells 2 (3 ∷ 5 ∷ replicate 14 0) }
+    -- of a value: written to bytes 10-11; 9 over all domains before 11, of two the lower; 11 before 10; an absent domain's counts as 9
+    ∷ record {
+      input = value readD (replicate 50 9);
+      outcome = writing (record { refused = 0; place = 0; bytes = 48 }) (planD ++ replicate 2 9);
+    }
+    ∷ record { input = value (valueD 2 2 7 (domains 3 0 0)) (replicate 50 9); outcome = writing (refusedWriting 9 2) (replicate 50 9) }
+    ∷ record { input = value (valueD 2 2 1 (domains 3 2 0)) (replicate 50 9); outcome = writing (refusedWriting 11 1) (replicate 50 9) }
+    ∷ record { input = value (valueD 2 2 1 (domains 1 0 1)) (replicate 50 9); outcome = writing (refusedWriting 9 3) (replicate 50 9) }
+    -- "A writeback passes on writeback claim if there is any, otherwise only when not blocked, and never above W"; "Loose takes off both
+    -- claims, and a domain waits on claim if it offers a kind of which it has claim left"
+    ∷ record {
+      input = calls planD writebacks;
+      outcome =
+          answers 0
+          (told 0 0 1 0 (pos 0) 2
+          ∷ told 6 1 0 0 (pos 0) 15
+          ∷ told 6 6 1 0 (pos 0) 0
+          ∷ told 1 2 0 0 (negsuc 0) 14
+          ∷ told 0 1 3 0 (negsuc 1) 0
+          ∷ completes 6 2 1 countsD 0
+          ∷ []);
+    }
+    -- "It uses no access claim, stock or reclaim cap"; the next period begins with both claims
+    ∷ record {
+      input = through planD writebacks;
+      outcome =
+          returns 0
+          ((0, inD 1 0 3 (domains 2 2 0) (domains 0 0 0) (domains 0 1 0) 2 (domains 1 0 0))
+          ∷ (0, inD 2 0 2 (domains 2 2 0) (domains 0 0 0) (domains 1 1 0) 17 (domains 0 0 0))
+          ∷ (0, inD 3 0 3 (domains 2 1 0) (domains 0 1 0) (domains 1 1 0) 17 (domains 0 0 0))
+          ∷ (0, inD 4 1 1 (domains 2 1 0) (domains 0 1 0) (domains 1 1 0) 31 (domains 0 0 0))
+          ∷ (0, inD 5 1 2 (domains 2 1 0) (domains 0 1 0) (domains 2 1 0) 31 (domains 0 0 0))
+          ∷ (0, stateOf readD 0 1 0 3 (domains 2 2 0) (domains 0 0 0) 0 noneWaiting)
+          ∷ []);
+    }
+    -- "In a state that adds up, the sum to T adds the writebacks, they are bounded by W alone"
+    ∷ record { input = given (wrote 2 (domains 1 1 0) (domains 0 0 0)) (yield 1 1); outcome = yieldsOf 0 (pos 1) }
+    ∷ record { input = given (wrote 0 (domains 1 1 0) (domains 0 0 0)) (yield 1 1); outcome = yieldsOf 30 (pos 2) }
+    ∷ record { input = given (wrote 3 (domains 1 2 0) (domains 0 0 0)) (yield 1 1); outcome = yieldsOf 30 (negsuc 0) }
+    -- ", and writeback claim is its reservation less the writebacks, or 0 if they exceed it"
+    ∷ record { input = given (wrote 0 (domains 0 0 0) (domains 0 0 0)) (yield 1 1); outcome = yieldsOf 30 (pos 2) }
+    ∷ record { input = given (wrote 2 (domains 1 1 0) (domains 1 0 0)) (yield 1 1); outcome = yieldsOf 30 (negsuc 0) }
+    ∷ record { input = given (wrote 2 (domains 1 1 0) (domains 0 1 0)) (yield 1 1); outcome = yieldsOf 30 (negsuc 0) }
+    -- "Yields are of access claim only": domain 1 has 2 of it, and 1 of the other
+    ∷ record { input = calls planD (yield 1 3 ∷ yield 1 2 ∷ []); outcome = answers 0 (yields 23 (pos 1) ∷ yields 0 (pos 3) ∷ []) }
+    -- a new plan's writeback claims start from its own reservations
+    ∷ record {
+      input = through planA (handIn readD ∷ replicate 4 (offer 1 1 1));
+      outcome =
+          returns 0
+          ((0, startA 0 (awaiting readD))
+          ∷ (0, inA 1 1 (domains 2 1 0) (domains 0 0 0) (awaiting readD))
+          ∷ (0, inA 2 2 (domains 1 1 0) (domains 1 0 0) (awaiting readD))
+          ∷ (0, inA 3 3 (domains 1 0 0) (domains 1 1 0) (awaiting readD))
+          ∷ (0, stateOf readD 0 1 0 2 (domains 2 2 0) (domains 0 0 0) 0 noneWaiting)
+          ∷ []);
     }
     -- the script, whose fifth slot shows "The turn put back to 0 at each period": `1 0 1 1:2+0-0w0 2:1+0-0w0`, `2 0 1 1:1+1-1w0 2:1+0-0w0`;
     -- and Point 9, "document 01's run: 15, then 30"

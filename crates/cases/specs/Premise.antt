@@ -1,5 +1,5 @@
--- The premise of the exact share can be met: in document 01's script on plan A domain 1 keeps asking in both completed periods; and
--- domain 3 does in a period of a plan that was handed in.
+-- The premise of the exact share can be met: in document 01's script on plan A domain 1 keeps asking in both completed periods; domain 3
+-- does in a period of a plan that was handed in; and domain 1 of plan D does with both claims.
 -- Assumes nothing.
 use Prim.Native.Nat.{ℕ}
 use mathlib.Core.Path.{_≡_}
@@ -13,30 +13,34 @@ use Rattle.share.specs.Call.{Call}
 use Rattle.share.specs.Ledger.{Period, blank, moments}
 use Rattle.share.specs.Run.{run}
 use Rattle.share.specs.Share.{KeepsAsking, feeds}
-use Rattle.cases.specs.Cases.{planA, script, handingIn}
+use Rattle.cases.specs.Cases.{planA, planD, script, handingIn, askingBoth}
 
 -- some element of a list has a property
 abbrev pub Some : {A : Type 0} → (A → Type 0) → List A → Type 0
 Some P [] = ⊥
 Some P (x ∷ xs) = P x ⊎ Some P xs
 
--- A period that is completed, in which the domain at index j keeps asking: of its reservation it yields some and passes
--- the rest on its claim.
-pub record Met (j reservation yielded passes : ℕ) (q : Period) : Type 0 where
+-- A period that is completed, in which the domain at index j keeps asking: of its reservation it yields some and passes the rest on its
+-- claim, and of its writeback reservation it passes all.
+pub record Met (j reservation yielded passes writebackreservation : ℕ) (q : Period) : Type 0 where
   pub completed : q .page .decided ≡ q .plan .period
-  pub asking : KeepsAsking (q .plan) j (q .slots)
+  pub asking : KeepsAsking j (q .slots)
   pub reserved : nth (q .plan .reservation) j ≡ reservation
   pub gives : nth (q .page .yielded) j ≡ yielded
   pub takes : nth (q .page .passes) j ≡ passes
+  pub writes : nth (q .plan .writebackreservation) j ≡ writebackreservation
+  pub written : nth (q .page .claimedwritebacks) j ≡ writebackreservation
 
 -- the periods of calls on a plan, as the ledger has them
 abbrev pub periodsOf : Plan → List Call → List Period
 periodsOf p cs = moments (blank p) (feeds (run (openPlan p .state) cs))
 
 -- in one period it yields nothing and passes 2, in the other it yields 1 and passes 1; document 02, Point 1: "the rule speaks of the plan
--- in force at a period's start", and plan A has no domain 3
+-- in force at a period's start", and plan A has no domain 3; Point 6: on plan D it passes 2 accesses and 1 writeback, while best effort and
+-- domain 2 offer in every slot
 abbrev pub PremiseMet : Type 0
 PremiseMet =
-    Some (Met 0 2 0 2) (periodsOf (readPlan planA .plan) script)
-    × Some (Met 0 2 1 1) (periodsOf (readPlan planA .plan) script)
-    × Some (Met 2 1 0 1) (periodsOf (readPlan planA .plan) handingIn)
+    Some (Met 0 2 0 2 0) (periodsOf (readPlan planA .plan) script)
+    × Some (Met 0 2 1 1 0) (periodsOf (readPlan planA .plan) script)
+    × Some (Met 2 1 0 1 0) (periodsOf (readPlan planA .plan) handingIn)
+    × Some (Met 0 2 0 2 1) (periodsOf (readPlan planD .plan) askingBoth)

@@ -13,7 +13,7 @@ pub struct Decision {
 }
 
 // Opens a plan: its state, or all zeros where it is refused.
-pub fn open(period: u32, domains: [u32; 64], s: &mut [u64]) -> model_plans::Told {
+pub fn open(period: u32, domains: [u32; 80], s: &mut [u64]) -> model_plans::Told {
     let told = model_plans::check(period, domains);
     cells::clear(s);
     if told.number != 0 {
@@ -80,8 +80,15 @@ fn slot_refusal(s: &[u64], offers: &[u8], lent: usize) -> u32 {
     if any_bad(s, offers, false) { 33 } else { 0 }
 }
 
-// A domain's pass, on its claim or else from the stock.
-fn pass(s: &mut [u64], n: usize) {
+// A domain's writeback: its writeback claim is what its writebacks leave of V.
+fn write_back(s: &mut [u64], n: usize) {
+    cells::add(s, n, cells::WRITEBACKS, 1);
+    let left = cells::write_claim(s, n);
+    cells::put(s, n, cells::WRITECLAIM, left);
+}
+
+// A domain's access, on its claim or else from the stock.
+fn access(s: &mut [u64], n: usize) {
     if cells::get(s, n, cells::CLAIM) > 0 {
         cells::take(s, n, cells::CLAIM, 1);
         cells::add(s, n, cells::RESERVED, 1);
@@ -103,21 +110,18 @@ fn enter(s: &mut [u64], offers: &[u8], chosen: usize) {
         cells::add(s, 0, cells::BEST, 1);
         return;
     }
-    pass(s, chosen);
     if verdict::offer(offers, chosen) == 2 {
-        cells::add(s, chosen, cells::WRITEBACKS, 1);
+        write_back(s, chosen);
+    } else {
+        access(s, chosen);
     }
-}
-
-fn less(a: u64, b: u64) -> u64 {
-    if b <= a { a - b } else { 0 }
 }
 
 // Puts a domain's counts; reserved is told from what is left over.
 fn put_domain_counts(s: &[u64], counts: &mut [u64], n: usize) {
     let yielded = cells::get(s, n, cells::YIELDED);
-    let used = less(cells::get(s, n, cells::Q), cells::get(s, n, cells::CLAIM));
-    cells::put(counts, n, cells::RESERVED, less(used, yielded));
+    let used = cells::less(cells::get(s, n, cells::Q), cells::get(s, n, cells::CLAIM));
+    cells::put(counts, n, cells::RESERVED, cells::less(used, yielded));
     cells::put(
         counts,
         n,
@@ -135,11 +139,12 @@ fn put_domain_counts(s: &[u64], counts: &mut [u64], n: usize) {
 
 // Puts the counts of a period whose slots are all decided; idle is told from what is left over.
 fn put_counts(s: &[u64], counts: &mut [u64]) {
-    let passes = cells::total(s, cells::RESERVED) + cells::total(s, cells::RECLAIMED);
+    let accesses = cells::total(s, cells::RESERVED) + cells::total(s, cells::RECLAIMED);
+    let passes = accesses + cells::total(s, cells::WRITEBACKS);
     let best = cells::get(s, 0, cells::BEST);
-    let others = less(cells::get(s, 0, cells::PERIOD), passes);
+    let others = cells::less(cells::get(s, 0, cells::PERIOD), passes);
     cells::put(counts, 0, cells::BEST, best);
-    cells::put(counts, 0, cells::IDLE, less(others, best));
+    cells::put(counts, 0, cells::IDLE, cells::less(others, best));
     cells::put(counts, 0, cells::STEPS, cells::get(s, 0, cells::STEPS));
     let mut n: usize = 1;
     while n <= 16 {
@@ -219,7 +224,7 @@ pub fn take_yield(s: &mut [u64], domain: u64, k: u64) -> u32 {
 }
 
 // Takes a plan that is handed in, or tells its refusal.
-pub fn hand_in(s: &mut [u64], period: u32, domains: [u32; 64]) -> model_plans::Told {
+pub fn hand_in(s: &mut [u64], period: u32, domains: [u32; 80]) -> model_plans::Told {
     let number = state_refusal(s);
     if number != 0 {
         return model_plans::Told {

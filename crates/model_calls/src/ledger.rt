@@ -1,8 +1,9 @@
 // The ledger of document 01: fed the plan, the calls, whether each was refused, and the verdicts and steps of a decided slot;
 // never a state. It keeps the last plan handed in and not refused, and takes it when the next period begins.
 // Its page has the rows and columns of `cells`: in row 0 the period, slots decided, idle, best effort and the sum of the steps
-// fed; in a domain's row Q, R, W, claim left, passes on claim, reclaimed, yielded and writebacks, and in column 0 whether it
-// kept asking; from row NEXT on the plan kept.
+// fed; in a domain's row Q, R, V, claim left, passes on claim, reclaimed, yielded, writebacks and writeback claim left, in
+// column 0 whether it kept asking, and in that of W, which no sentence asks for, the writebacks on claim; from row NEXT on
+// the plan kept.
 ghost use Prim.Native.Nat.{_+_, _<_, _≤_};
 use super::cells;
 use super::verdict;
@@ -11,15 +12,18 @@ use model_plans::words;
 
 const ASKING: usize = 0;
 
+const ONCLAIM: usize = 3;
+
 // What an entry showed: whether it completed a period, how many domains with a reservation above 0 kept asking through
-// that period, and how many sentences of demand 3 did not hold.
+// that period, how many of them had both reservations above 0, and how many sentences of demand 3 did not hold.
 pub struct Entry {
     pub complete: bool,
     pub asked: u32,
+    pub twofold: u32,
     pub faults: u32,
 }
 
-pub fn begin(page: &mut [u64], period: u32, domains: [u32; 64]) {
+pub fn begin(page: &mut [u64], period: u32, domains: [u32; 80]) {
     cells::clear(page);
     cells::put_plan(page, 0, period, domains);
     start_page(page);
@@ -30,11 +34,12 @@ fn start_page(page: &mut [u64]) {
     let mut n: usize = 1;
     while n <= 16 {
         cells::put(page, n, ASKING, 1);
+        cells::put(page, n, ONCLAIM, 0);
         n += 1;
     }
 }
 
-// Whether a domain passed at most Q less what it yielded, and R.
+// Whether a domain's accesses passed at most Q less what it yielded, and R.
 fn within(page: &[u64], n: usize) -> bool {
     let yielded = cells::get(page, n, cells::YIELDED);
     let passes = cells::get(page, n, cells::RESERVED) + cells::get(page, n, cells::RECLAIMED);
@@ -68,6 +73,7 @@ fn open_entry(page: &[u64], faults: u32) -> Entry
     Entry {
         complete: false,
         asked: 0,
+        twofold: 0,
         faults: faults + bounds(page),
     }
 }
@@ -89,7 +95,7 @@ pub fn enter_yield(page: &mut [u64], refused: bool, domain: u64, k: u64) -> Entr
 }
 
 // A plan handed in: the last one not refused is kept.
-pub fn enter_plan(page: &mut [u64], refused: bool, period: u32, domains: [u32; 64]) -> Entry {
+pub fn enter_plan(page: &mut [u64], refused: bool, period: u32, domains: [u32; 80]) -> Entry {
     if refused {
         return open_entry(page, 0);
     }
@@ -97,15 +103,14 @@ pub fn enter_plan(page: &mut [u64], refused: bool, period: u32, domains: [u32; 6
     open_entry(page, 0)
 }
 
-// Whether a domain with claim left offers an access, or a writeback while below its writeback cap.
+// Whether a domain offers a kind with claim left, or has none left of either.
 fn asks(page: &[u64], offers: &[u8], n: usize) -> bool {
-    if cells::get(page, n, cells::CLAIM) == 0 {
-        return true;
-    }
+    let reads = cells::get(page, n, cells::CLAIM);
+    let writes = cells::get(page, n, cells::WRITECLAIM);
     match verdict::offer(offers, n) {
-        1 => true,
-        2 => cells::get(page, n, cells::WRITEBACKS) < cells::get(page, n, cells::W),
-        _ => false,
+        1 => reads > 0 || writes == 0,
+        2 => writes > 0 || reads == 0,
+        _ => reads + writes == 0,
     }
 }
 
@@ -135,8 +140,17 @@ fn next_one(verdicts: &[u8], from: usize) -> usize {
     17
 }
 
-// A domain's pass: on its claim left, or else reclaimed.
-fn enter_pass(page: &mut [u64], n: usize) {
+// A domain's writeback: on its writeback claim left, or else on neither.
+fn enter_writeback(page: &mut [u64], n: usize) {
+    cells::add(page, n, cells::WRITEBACKS, 1);
+    if cells::get(page, n, cells::WRITECLAIM) > 0 {
+        cells::take(page, n, cells::WRITECLAIM, 1);
+        cells::add(page, n, ONCLAIM, 1);
+    }
+}
+
+// A domain's access: on its claim left, or else reclaimed.
+fn enter_access(page: &mut [u64], n: usize) {
     if cells::get(page, n, cells::CLAIM) > 0 {
         cells::take(page, n, cells::CLAIM, 1);
         cells::add(page, n, cells::RESERVED, 1);
@@ -155,9 +169,10 @@ fn enter_grant(page: &mut [u64], offers: &[u8], n: usize) {
         cells::add(page, 0, cells::IDLE, 1);
         return;
     }
-    enter_pass(page, n);
     if verdict::offer(offers, n) == 2 {
-        cells::add(page, n, cells::WRITEBACKS, 1);
+        enter_writeback(page, n);
+    } else {
+        enter_access(page, n);
     }
 }
 
@@ -165,7 +180,7 @@ fn enter_grant(page: &mut [u64], offers: &[u8], n: usize) {
 // writebacks.
 fn is_told(row: usize, column: usize) -> bool {
     if row > 0 {
-        return column >= cells::RESERVED;
+        return column >= cells::RESERVED && column <= cells::WRITEBACKS;
     }
     match column {
         cells::IDLE | cells::BEST | cells::STEPS => true,
@@ -175,8 +190,8 @@ fn is_told(row: usize, column: usize) -> bool {
 
 // What is told for a word of the page where a period is complete.
 fn count_due(page: &[u64], k: usize, complete: bool) -> u64 {
-    let row = k / 9;
-    let column = k % 9;
+    let row = k / cells::COLUMNS;
+    let column = k % cells::COLUMNS;
     if is_told(row, column) {
         if complete {
             return cells::get(page, row, column);
@@ -189,7 +204,9 @@ fn count_due(page: &[u64], k: usize, complete: bool) -> u64 {
 fn counts_agree(page: &[u64], complete: bool, told: bool, counts: &[u64]) -> bool {
     let mut k: usize = 0;
     while k < cells::COUNTS {
-        if cells::get(counts, k / 9, k % 9) != count_due(page, k, complete) {
+        if cells::get(counts, k / cells::COLUMNS, k % cells::COLUMNS)
+            != count_due(page, k, complete)
+        {
             return false;
         }
         k += 1;
@@ -197,11 +214,21 @@ fn counts_agree(page: &[u64], complete: bool, told: bool, counts: &[u64]) -> boo
     told == complete
 }
 
-// What a completed period comes to: how many domains with a reservation kept asking, and how many of those that kept
-// asking did not pass on claim exactly Q less what they yielded.
+// What a completed period comes to: how many domains with a reservation kept asking, how many with both, and how many of
+// those that kept asking did not use up both claims.
 struct Shares {
     asked: u32,
+    twofold: u32,
     faults: u32,
+}
+
+// Whether a domain passed on claim exactly Q less what it yielded, and wrote back on claim exactly V.
+fn used_up(page: &[u64], n: usize) -> bool {
+    let reads = cells::get(page, n, cells::RESERVED) + cells::get(page, n, cells::YIELDED);
+    if cells::get(page, n, ONCLAIM) != cells::get(page, n, cells::V) {
+        return false;
+    }
+    reads == cells::get(page, n, cells::Q)
 }
 
 fn kept_asking(page: &[u64], n: usize, and: bool) -> bool {
@@ -216,19 +243,22 @@ fn settled(page: &[u64]) -> Shares
     ensures { λ r. ⌜ r .faults ≤ 16 ⌝ }
 {
     let mut asked: u32 = 0;
+    let mut twofold: u32 = 0;
     let mut faults: u32 = 0;
     let mut n: usize = 1;
     while n <= 16 {
-        let quota = cells::get(page, n, cells::Q);
-        asked += words::one_if(kept_asking(page, n, quota > 0));
-        faults += words::one_if(kept_asking(
-            page,
-            n,
-            cells::get(page, n, cells::RESERVED) + cells::get(page, n, cells::YIELDED) != quota,
-        ));
+        let reads = cells::get(page, n, cells::Q);
+        let writes = cells::get(page, n, cells::V);
+        asked += words::one_if(kept_asking(page, n, reads + writes > 0));
+        twofold += words::one_if(kept_asking(page, n, reads > 0 && writes > 0));
+        faults += words::one_if(kept_asking(page, n, !used_up(page, n)));
         n += 1;
     }
-    Shares { asked, faults }
+    Shares {
+        asked,
+        twofold,
+        faults,
+    }
 }
 
 // Enters a decided slot, and tells as a fault a second verdict 1.
@@ -258,6 +288,7 @@ fn closed_entry(page: &mut [u64], faults: u32) -> Entry
     Entry {
         complete: true,
         asked: shared.asked,
+        twofold: shared.twofold,
         faults: entry.faults + shared.faults,
     }
 }

@@ -1,5 +1,5 @@
 // A second implementation of the regulator, made plain and slow to compare the library with, and the ledger. A state and the
-// ledger's page are 306 words, counts 153, whose places `cells` states.
+// ledger's page are 374 words, counts 187, whose places `cells` states.
 mod calls;
 pub mod cells;
 mod ledger;

@@ -3,22 +3,19 @@ ghost use Prim.Native.Nat.{_<_, _≤_};
 use super::cells;
 use super::waiting;
 
-// Whether a domain's own numbers fit each other; those of an absent one, whose caps and Q are 0, are then all 0.
+// Whether a domain's own numbers fit each other; those of an absent one, whose caps and reservations are 0, are then all 0.
 fn domain_fits(s: &[u64], n: usize) -> bool {
-    let reserved = cells::get(s, n, cells::RESERVED);
-    let reclaimed = cells::get(s, n, cells::RECLAIMED);
-    let writebacks = cells::get(s, n, cells::WRITEBACKS);
-    let shares = cells::get(s, n, cells::CLAIM) + reserved + cells::get(s, n, cells::YIELDED);
-    if shares != cells::get(s, n, cells::Q) {
+    let used = cells::get(s, n, cells::RESERVED) + cells::get(s, n, cells::YIELDED);
+    if cells::get(s, n, cells::CLAIM) + used != cells::get(s, n, cells::Q) {
         return false;
     }
-    if reclaimed > cells::get(s, n, cells::R) {
+    if cells::get(s, n, cells::RECLAIMED) > cells::get(s, n, cells::R) {
         return false;
     }
-    if writebacks > cells::get(s, n, cells::W) {
+    if cells::get(s, n, cells::WRITEBACKS) > cells::get(s, n, cells::W) {
         return false;
     }
-    writebacks <= reserved + reclaimed
+    cells::get(s, n, cells::WRITECLAIM) == cells::write_claim(s, n)
 }
 
 fn domains_fit(s: &[u64]) -> bool {
@@ -49,7 +46,8 @@ pub fn adds_up(s: &[u64]) -> bool {
     let period = cells::get(s, 0, cells::PERIOD);
     let decided = cells::get(s, 0, cells::DECIDED);
     let reclaimed = cells::total(s, cells::RECLAIMED);
-    let passes = cells::get(s, 0, cells::BEST) + cells::total(s, cells::RESERVED) + reclaimed;
+    let accesses = cells::total(s, cells::RESERVED) + reclaimed;
+    let passes = cells::get(s, 0, cells::BEST) + accesses + cells::total(s, cells::WRITEBACKS);
     if decided >= period {
         return false;
     }

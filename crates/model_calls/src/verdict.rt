@@ -9,29 +9,20 @@ pub fn offer(offers: &[u8], n: usize) -> u8 {
     if n < offers.len() { offers[n] } else { 0 }
 }
 
-fn offers_writeback_at_cap(s: &[u64], offers: &[u8], n: usize) -> bool {
-    if offer(offers, n) == 2 {
-        cells::get(s, n, cells::WRITEBACKS) == cells::get(s, n, cells::W)
-    } else {
-        false
+// What a domain has left of its claim on the kind that it offers; 0 where it offers none.
+fn claim_offered(s: &[u64], offers: &[u8], n: usize) -> u64 {
+    match offer(offers, n) {
+        0 => 0,
+        2 => cells::write_claim(s, n),
+        _ => cells::get(s, n, cells::CLAIM),
     }
-}
-
-fn waits(s: &[u64], offers: &[u8], n: usize) -> bool {
-    if offer(offers, n) == 0 {
-        return false;
-    }
-    if cells::get(s, n, cells::CLAIM) == 0 {
-        return false;
-    }
-    !offers_writeback_at_cap(s, offers, n)
 }
 
 // Whether some domain is waiting on claim.
 fn some_wait(s: &[u64], offers: &[u8]) -> bool {
     let mut n: usize = 1;
     while n <= 16 {
-        if waits(s, offers, n) {
+        if claim_offered(s, offers, n) > 0 {
             return true;
         }
         n += 1;
@@ -39,47 +30,61 @@ fn some_wait(s: &[u64], offers: &[u8]) -> bool {
     false
 }
 
-// Loose is at most 0 just where the period is at most the slots decided and all claims together.
+// Loose is at most 0 just where the period is at most the slots decided and all claims of both kinds together.
 fn blocked(s: &[u64], offers: &[u8]) -> bool {
-    let taken = cells::get(s, 0, cells::DECIDED) + cells::total(s, cells::CLAIM);
-    if cells::get(s, 0, cells::PERIOD) <= taken {
+    let claims = cells::total(s, cells::CLAIM) + cells::total(s, cells::WRITECLAIM);
+    if cells::get(s, 0, cells::PERIOD) <= cells::get(s, 0, cells::DECIDED) + claims {
         some_wait(s, offers)
     } else {
         false
     }
 }
 
-// The verdict of a number before anybody is granted: 2 for each that passes.
-fn ruling(s: &[u64], offers: &[u8], n: usize) -> u8 {
+// The verdict of a number before anybody is granted, where those without claim are blocked or not: 2 for each that passes.
+fn ruling(s: &[u64], offers: &[u8], n: usize, shut: bool) -> u8 {
     if offer(offers, n) == 0 {
         return 0;
     }
-    if n == 0 {
-        return if blocked(s, offers) { 6 } else { 2 };
+    if n > 0 {
+        if claim_offered(s, offers, n) > 0 {
+            return 2;
+        }
+        let stopped = stop(s, n, offer(offers, n) == 2);
+        if stopped > 0 {
+            return stopped;
+        }
     }
-    if offers_writeback_at_cap(s, offers, n) {
-        return 3;
-    }
-    if cells::get(s, n, cells::CLAIM) > 0 {
-        return 2;
+    if shut { 6 } else { 2 }
+}
+
+// What stops a domain that has no claim on the kind it offers: 3 a writeback at W, and 4 or 5 an access alone; 0 for nothing.
+// No writeback at W has claim left, for V is at most W.
+fn stop(s: &[u64], n: usize, writes: bool) -> u8 {
+    if writes {
+        return if cells::get(s, n, cells::WRITEBACKS) == cells::get(s, n, cells::W) {
+            3
+        } else {
+            0
+        };
     }
     if cells::get(s, n, cells::RECLAIMED) == cells::get(s, n, cells::R) {
         return 4;
     }
     if cells::get(s, 0, cells::STOCK) == 0 {
-        return 5;
+        5
+    } else {
+        0
     }
-    if blocked(s, offers) { 6 } else { 2 }
 }
 
 // The lesser of a distance and that of a number from the turn on, if this number passes.
-fn nearer(s: &[u64], offers: &[u8], n: usize, turn: usize, soonest: usize) -> usize
+fn nearer(s: &[u64], offers: &[u8], n: usize, shut: bool, turn: usize, soonest: usize) -> usize
     requires { ⌜ (n < 17) × (turn < 17) × (soonest ≤ 17) ⌝ }
     ensures { λ r. ⌜ r ≤ 17 ⌝ }
 {
     let distance = (n + 17 - turn) % 17;
     if distance < soonest {
-        if ruling(s, offers, n) == 2 {
+        if ruling(s, offers, n, shut) == 2 {
             return distance;
         }
     }
@@ -91,10 +96,11 @@ pub fn granted(s: &[u64], offers: &[u8]) -> usize
     ensures { λ r. ⌜ r ≤ 17 ⌝ }
 {
     let turn = (cells::get(s, 0, cells::TURN) % 17) as usize;
+    let shut = blocked(s, offers);
     let mut soonest = NOBODY;
     let mut n: usize = 0;
     while n < 17 {
-        soonest = nearer(s, offers, n, turn, soonest);
+        soonest = nearer(s, offers, n, shut, turn, soonest);
         n += 1;
     }
     if soonest < NOBODY {
@@ -118,9 +124,10 @@ pub fn steps(s: &[u64], chosen: usize) -> u32
 
 // Puts the verdicts of all numbers, where one of them, or NOBODY, is granted.
 pub fn put_verdicts(s: &[u64], offers: &[u8], chosen: usize, verdicts: &mut [u8]) {
+    let shut = blocked(s, offers);
     let mut n: usize = 0;
     while n < verdicts.len() {
-        verdicts[n] = ruling(s, offers, n);
+        verdicts[n] = ruling(s, offers, n, shut);
         n += 1;
     }
     if chosen < verdicts.len() {

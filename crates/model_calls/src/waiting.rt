@@ -23,7 +23,7 @@ pub fn plans_fit(s: &[u64]) -> bool {
 }
 
 // Puts a plan in the place of whatever waits.
-pub fn put_waiting(s: &mut [u64], period: u32, domains: [u32; 64]) {
+pub fn put_waiting(s: &mut [u64], period: u32, domains: [u32; 80]) {
     cells::put(s, cells::NEXT, cells::WAITS, 1);
     cells::put_plan(s, cells::NEXT, period, domains);
 }
@@ -33,7 +33,7 @@ fn is_plan(row: usize, column: usize) -> bool {
     if row == 0 {
         column == cells::PERIOD
     } else {
-        column <= cells::W
+        column <= cells::V
     }
 }
 
@@ -53,8 +53,8 @@ pub fn take_force(s: &mut [u64]) {
     let waits = cells::get(s, cells::NEXT, cells::WAITS) != 0;
     let mut k: usize = 0;
     while k < cells::COUNTS {
-        let row = k / 9;
-        let column = k % 9;
+        let row = k / cells::COLUMNS;
+        let column = k % cells::COLUMNS;
         move_word(s, row, column, waits && is_plan(row, column));
         k += 1;
     }

@@ -1,9 +1,9 @@
-// The sums of Q that the walk along the chain tells: each question about them walks anew from record 0.
+// The sums of both reservations that the walk along the chain tells: each question about them walks anew from record 0.
 ghost use Prim.Native.Nat.{_<_, _≤_};
 use super::chain;
 use super::record;
 
-// How many records the walk took, and the sum of Q after each of them in the chain's order, zeros behind.
+// How many records the walk took, and the sum of both reservations after each of them in the chain's order, zeros behind.
 pub struct Sums {
     pub records: u32,
     pub told: [u32; 16],
@@ -20,7 +20,7 @@ fn reached(file: &[u8], steps: u32) -> u32 {
     at
 }
 
-// Whether the walk takes one more record after so many: the chain goes on, and no refusal of 4 to 9 stops it.
+// Whether the walk takes one more record after so many: the chain goes on, and no refusal of 4 to 9 or 11 stops it.
 fn takes(file: &[u8], records: u32, period: u32) -> bool
     requires { ⌜ records < 16 ⌝ }
 {
@@ -47,7 +47,7 @@ pub fn taken(file: &[u8], period: u32) -> u32
     records
 }
 
-// The sum of Q over the first records of the chain.
+// The sum of Q and of the writeback reservation over the first records of the chain.
 pub fn sum_after(file: &[u8], records: u32) -> u32
     requires { ⌜ records ≤ 16 ⌝ }
 {
@@ -55,7 +55,8 @@ pub fn sum_after(file: &[u8], records: u32) -> u32
     let mut k = 0;
     while k < records {
         k += 1;
-        sum += record::number(file, reached(file, k), 4);
+        let at = reached(file, k);
+        sum += record::number(file, at, 4) + record::number(file, at, 10);
     }
     sum
 }

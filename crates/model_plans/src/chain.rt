@@ -6,7 +6,7 @@ use super::words;
 pub struct Walked {
     pub number: u32,
     pub place: u32,
-    pub domains: [u32; 64],
+    pub domains: [u32; 80],
 }
 
 // Whether two records are one record, or have the same domain number.
@@ -34,7 +34,7 @@ fn repeats(file: &[u8], steps: u32, index: u32, by_number: bool) -> bool {
 
 fn unlisted_zero(file: &[u8], index: u32) -> bool {
     if record::zeros(file, index, 3, 4) {
-        record::zeros(file, index, 10, 16)
+        record::zeros(file, index, 12, 16)
     } else {
         false
     }
@@ -51,7 +51,7 @@ fn within(file: &[u8], index: u32, period: u32) -> bool {
     record::number(file, index, 8) <= period
 }
 
-// The first refusal of an index that is followed after so many steps, 4 to 9, or else 0.
+// The first refusal of an index that is followed after so many steps, 4 to 9 or 11, or else 0.
 pub fn fault(file: &[u8], steps: u32, index: u32, period: u32) -> u32 {
     if record::exists(file, index) {
         if repeats(file, steps, index, false) {
@@ -76,22 +76,36 @@ fn record_fault(file: &[u8], steps: u32, index: u32, period: u32) -> u32 {
         return 7;
     }
     if unlisted_zero(file, index) {
-        if within(file, index, period) { 0 } else { 9 }
+        amounts_fault(file, index, period)
     } else {
         8
     }
 }
 
-fn with_record(domains: [u32; 64], file: &[u8], index: u32) -> [u32; 64] {
+// 9 where Q, R or W is above the period, then 11 where the writeback reservation is above W, or 0.
+fn amounts_fault(file: &[u8], index: u32, period: u32) -> u32 {
+    if within(file, index, period) {
+        if record::number(file, index, 10) > record::number(file, index, 8) {
+            11
+        } else {
+            0
+        }
+    } else {
+        9
+    }
+}
+
+fn with_record(domains: [u32; 80], file: &[u8], index: u32) -> [u32; 80] {
     let q = record::number(file, index, 4);
     let r = record::number(file, index, 6);
     let w = record::number(file, index, 8);
-    words::with_domain(domains, record::byte(file, index, 2), q, r, w)
+    let v = record::number(file, index, 10);
+    words::with_domain(domains, record::byte(file, index, 2), q, r, w, v)
 }
 
 // Follows the chain to its end or to the first refusal. No chain that is accepted has more records than a file.
 pub fn walk(file: &[u8], period: u32) -> Walked {
-    let mut domains = [0u32; 64];
+    let mut domains = [0u32; 80];
     let mut at = record::link(file, 0);
     let mut steps = 0;
     while steps < 64 {

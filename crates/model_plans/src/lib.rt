@@ -1,5 +1,6 @@
 // A second implementation of plans, made plain and slow to compare the library with. A plan is a period and flat words: those
-// of domain n (1 to 16) stand at 4 * (n - 1): present (0 or 1), reservation Q, reclaim cap R, writeback cap W.
+// of domain n (1 to 16) stand at 5 * (n - 1): present (0 or 1), reservation Q, reclaim cap R, writeback cap W, and the
+// writeback reservation, here called V.
 mod along;
 mod chain;
 mod layout;
@@ -13,7 +14,7 @@ pub struct Answer {
     pub number: u32,
     pub place: u32,
     pub period: u32,
-    pub domains: [u32; 64],
+    pub domains: [u32; 80],
 }
 
 // What checking or writing a plan held as words tells; a refusal has 0 bytes.
@@ -28,7 +29,7 @@ fn refused(number: u32, place: u32) -> Answer {
         number,
         place,
         period: 0,
-        domains: [0; 64],
+        domains: [0; 80],
     }
 }
 
@@ -60,7 +61,7 @@ pub fn sums(file: &[u8]) -> Sums {
     along::of_file(file)
 }
 
-pub fn check(period: u32, domains: [u32; 64]) -> Told {
+pub fn check(period: u32, domains: [u32; 80]) -> Told {
     if period == 0 {
         return outcome(2, 0, 0);
     }
@@ -71,7 +72,10 @@ pub fn check(period: u32, domains: [u32; 64]) -> Told {
     if totals.lowestbad != 0 {
         return outcome(9, totals.lowestbad, 0);
     }
-    if totals.reservation > words::wider(period) {
+    if totals.lowestabove != 0 {
+        return outcome(11, totals.lowestabove, 0);
+    }
+    if totals.reservations > words::wider(period) {
         return outcome(10, 0, 0);
     }
     outcome(0, 0, 0)
@@ -85,7 +89,7 @@ fn outcome(number: u32, place: u32, bytes: u32) -> Told {
     }
 }
 
-pub fn write(period: u32, domains: [u32; 64], buffer: &mut [u8]) -> Told {
+pub fn write(period: u32, domains: [u32; 80], buffer: &mut [u8]) -> Told {
     let checked = check(period, domains);
     if checked.number != 0 {
         return checked;

@@ -1,9 +1,9 @@
 // The flat words of a plan's domains, and the rules of a plan held as a value.
 ghost use Prim.Native.Nat.{_+_, _<_, _≤_};
 
-// A word of a domain: 0 present, 1 Q, 2 R, 3 W; 0 for a domain number outside 1 to 16.
-pub fn word(domains: [u32; 64], domain: u32, which: u32) -> u32
-    requires { ⌜ which < 4 ⌝ }
+// A word of a domain: 0 present, 1 Q, 2 R, 3 W, 4 V; 0 for a domain number outside 1 to 16.
+pub fn word(domains: [u32; 80], domain: u32, which: u32) -> u32
+    requires { ⌜ which < 5 ⌝ }
 {
     if domain == 0 {
         return 0;
@@ -11,11 +11,11 @@ pub fn word(domains: [u32; 64], domain: u32, which: u32) -> u32
     if domain > 16 {
         return 0;
     }
-    let at = (4 * (domain - 1) + which) as usize;
+    let at = (5 * (domain - 1) + which) as usize;
     domains[at]
 }
 
-pub fn with_domain(domains: [u32; 64], domain: u32, q: u32, r: u32, w: u32) -> [u32; 64] {
+pub fn with_domain(domains: [u32; 80], domain: u32, q: u32, r: u32, w: u32, v: u32) -> [u32; 80] {
     if domain == 0 {
         return domains;
     }
@@ -23,11 +23,12 @@ pub fn with_domain(domains: [u32; 64], domain: u32, q: u32, r: u32, w: u32) -> [
         return domains;
     }
     let mut after = domains;
-    let at = (4 * (domain - 1)) as usize;
+    let at = (5 * (domain - 1)) as usize;
     after[at] = 1;
     after[at + 1] = q;
     after[at + 2] = r;
     after[at + 3] = w;
+    after[at + 4] = v;
     after
 }
 
@@ -37,28 +38,38 @@ pub fn wider(x: u32) -> u64
     x as u64
 }
 
-// Whether a domain present has a number above the period, or an absent one a number above zero.
-fn bad(period: u32, domains: [u32; 64], domain: u32) -> bool {
-    let most = if word(domains, domain, 0) == 0 {
-        0
-    } else {
-        period
-    };
-    if word(domains, domain, 1) > most {
-        return true;
-    }
-    if word(domains, domain, 2) > most {
-        return true;
-    }
-    word(domains, domain, 3) > most
+// The five words of a domain.
+struct Five {
+    present: u32,
+    q: u32,
+    r: u32,
+    w: u32,
+    v: u32,
 }
 
-// What the sixteen domains come to: how many are present, the sum of Q by plain addition, and the lowest domain whose
-// numbers are refused, or 0.
+// Whether a domain present has Q, R or W above the period, or an absent one any number above zero.
+fn bad(period: u32, d: Five) -> bool {
+    let absent = d.present == 0;
+    let most = if absent { 0 } else { period };
+    if d.q > most {
+        return true;
+    }
+    if d.r > most {
+        return true;
+    }
+    if d.w > most {
+        return true;
+    }
+    absent && d.v > 0
+}
+
+// What the sixteen domains come to: how many are present, the sum of both reservations by plain addition, the lowest domain
+// whose numbers are refused, or 0, and the lowest whose V is above its W, or 0.
 pub struct Totals {
     pub present: u32,
-    pub reservation: u64,
+    pub reservations: u64,
     pub lowestbad: u32,
+    pub lowestabove: u32,
 }
 
 pub fn one_if(there: bool) -> u32
@@ -76,37 +87,45 @@ fn first_of(found: u32, refused: bool, domain: u32) -> u32 {
 }
 
 // One domain more, asked after those of lower number.
-fn with_counted(t: Totals, period: u32, domains: [u32; 64], domain: u32) -> Totals
-    requires { ⌜ (t .present < 16) × (t .reservation < 281474976710656) ⌝ }
-    ensures { λ r. ⌜ (r .present ≤ t .present + 1) × (r .reservation < t .reservation + 4294967296) ⌝ }
+fn with_counted(t: Totals, period: u32, d: Five, domain: u32) -> Totals
+    requires { ⌜ (t .present < 16) × (t .reservations < 281474976710656) ⌝ }
+    ensures { λ r. ⌜ (r .present ≤ t .present + 1) × (r .reservations < t .reservations + 8589934592) ⌝ }
 {
-    let refused = bad(period, domains, domain);
     Totals {
-        present: t.present + one_if(word(domains, domain, 0) != 0),
-        reservation: t.reservation + wider(word(domains, domain, 1)),
-        lowestbad: first_of(t.lowestbad, refused, domain),
+        present: t.present + one_if(d.present != 0),
+        reservations: t.reservations + (wider(d.q) + wider(d.v)),
+        lowestbad: first_of(t.lowestbad, bad(period, d), domain),
+        lowestabove: first_of(t.lowestabove, d.v > d.w, domain),
     }
 }
 
-pub fn count(period: u32, domains: [u32; 64]) -> Totals
+pub fn count(period: u32, domains: [u32; 80]) -> Totals
     ensures { λ r. ⌜ r .present ≤ 16 ⌝ }
 {
     let mut t = Totals {
         present: 0,
-        reservation: 0,
+        reservations: 0,
         lowestbad: 0,
+        lowestabove: 0,
     };
-    let mut n = 0;
+    let mut n: usize = 0;
     while n < 16 {
-        let next = with_counted(t, period, domains, n + 1);
-        t = next;
+        let d = Five {
+            present: domains[5 * n],
+            q: domains[5 * n + 1],
+            r: domains[5 * n + 2],
+            w: domains[5 * n + 3],
+            v: domains[5 * n + 4],
+        };
         n += 1;
+        let next = with_counted(t, period, d, n as u32);
+        t = next;
     }
     t
 }
 
 // The domain number that is the given one, counted from 1, of those present in ascending order; 0 for none.
-pub fn ranked(domains: [u32; 64], rank: u32) -> u32 {
+pub fn ranked(domains: [u32; 80], rank: u32) -> u32 {
     let mut left = rank;
     let mut n = 1;
     while n <= 16 {

@@ -41,10 +41,10 @@ fn any_unlisted(b: &[u8]) -> bool
     requires { ⌜ length (now b) ≡ 16 ⌝ }
     ensures { λ r. ⌜ r ≡ unlisted (now (b .entry)) ⌝ }
 {
-    b[3] != 0 || !records::all_zero(&b[10..16])
+    b[3] != 0 || !records::all_zero(&b[12..16])
 }
 
-// The refusal that a record draws by itself, 6 to 9, or 0.
+// The refusal that a record draws by itself, 6 to 9 or 11, or 0.
 fn record_refusal(b: &[u8], period: u16, planned: [bool; 16]) -> u8
     requires { ⌜ length (now b) ≡ 16 ⌝ }
     ensures { λ r. ⌜ r ≡ firstOf (recordTable period (getD planned (getD (now (b .entry)) 2 0 - 1) false) (now (b .entry))) 0 ⌝ }
@@ -64,10 +64,13 @@ fn record_refusal(b: &[u8], period: u16, planned: [bool; 16]) -> u8
     if value::any_above(period, d.reservation, d.reclaimcap, d.writebackcap) {
         return 9;
     }
+    if value::is_above_cap(d.writebackcap, d.writebackreservation) {
+        return 11;
+    }
     0
 }
 
-// The refusal that following index i draws, 4 to 9, or 0: `seen` tells the records on the chain, `planned` the numbers met.
+// The refusal that following index i draws, 4 to 9 or 11, or 0: `seen` tells the records on the chain, `planned` the numbers met.
 fn following(file: &[u8], period: u16, seen: [bool; 64], planned: [bool; 16], i: usize) -> u8
     requires { ⌜ length (now file) ≤ 1024 ⌝ }
     ensures { λ r. ⌜ r ≡ firstOf (linkTable (length (now (file .entry)) / 16) (getD seen i false) i ++ recordTable period (getD planned (getD (recordAt (now (file .entry)) i) 2 0 - 1) false) (recordAt (now (file .entry)) i)) 0 ⌝ }
@@ -113,10 +116,10 @@ fn nothing_gathered(period: u16) -> Gathered
 }
 
 // One record is taken: the plan with its domain, and the sum with what the domain reserves. Fifteen domains before it
-// reserve at most 15 * 65,535, so the sum cannot wrap.
+// reserve at most 15 * 131,070, so the sum cannot wrap.
 fn gather(g: Gathered, d: Domain) -> Gathered
     requires { ⌜ (1 ≤ d .number) × (d .number ≤ 16) ⌝ }
-    requires { ⌜ (g .sums .records < 16) × (g .sum ≤ 983025) ⌝ }
+    requires { ⌜ (g .sums .records < 16) × (g .sum ≤ 1966050) ⌝ }
     ensures { λ r. ⌜ r ≡ withRecord g d ⌝ }
 {
     let plan = value::with_domain(g.plan, d);

@@ -1,9 +1,9 @@
 // Plans: the plan value, the plan file, and the way between the two.
 //
-// check(p): would a plan held as a value be accepted? 2, 9 or 10 with its place, or 0.
-// read(file): the plan of a file, or a refusal 1 to 10 with its place, for any bytes.
-// sums_told(file): how many records the walk along the chain takes, and the sum of Q after each, for any bytes.
-// write(p, buffer): the file of a plan, in lent bytes; 2, 9, 10 or 51, or the bytes written.
+// check(p): would a plan held as a value be accepted? 2, 9, 11 or 10 with its place, or 0.
+// read(file): the plan of a file, or a refusal 1 to 11 with its place, for any bytes.
+// sums_told(file): how many records the walk along the chain takes, and the sum of both reservations after each, for any bytes.
+// write(p, buffer): the file of a plan, in lent bytes; 2, 9, 11, 10 or 51, or the bytes written.
 // write_and_read(p, buffer): a plan written and read again; its contract is the round trip.
 mod chain;
 mod reading;

@@ -1,4 +1,4 @@
-// Reading a plan file: the refusals 1 to 10 in table order, or the plan.
+// Reading a plan file: the refusals 1 to 11 in table order, or the plan.
 use crate::chain;
 use crate::records;
 use crate::value;

@@ -53,6 +53,7 @@ pub(crate) fn domain_in(b: &[u8]) -> Domain
         reservation: u16_at(b, 4),
         reclaimcap: u16_at(b, 6),
         writebackcap: u16_at(b, 8),
+        writebackreservation: u16_at(b, 10),
     }
 }
 
@@ -95,8 +96,8 @@ pub(crate) fn domain_record(next: u16, d: Domain) -> [u8; 16]
         (d.reclaimcap / 256 % 256) as u8,
         (d.writebackcap % 256) as u8,
         (d.writebackcap / 256 % 256) as u8,
-        0,
-        0,
+        (d.writebackreservation % 256) as u8,
+        (d.writebackreservation / 256 % 256) as u8,
         0,
         0,
         0,

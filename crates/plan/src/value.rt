@@ -1,19 +1,20 @@
 // The plan value, and the check of a plan that is held as a value.
 ghost use mathlib.Core.Path.{_≡_};
 ghost use mathlib.Core.Bool.{cond};
-ghost use Prim.Native.Nat.{_≤_};
+ghost use Prim.Native.Nat.{ℕ, _<_, _≤_};
 ghost use lib.Dec.{ltb};
 ghost use Rattle.table.specs.Ranges.{someBelow, lowest};
-ghost use Rattle.plan.specs.Value.{outside, above, outOfRange, planRefusal, noDomains, withDomain, reserves};
+ghost use Rattle.plan.specs.Value.{outside, above, holdsAbsent, aboveCap, outOfRange, overCap, reserved, planRefusal, noDomains, withDomain, reserves};
 
-// A plan: the period, and of each domain number n at index n - 1 whether it is planned, its reservation Q, reclaim cap R
-// and writeback cap W.
+// A plan: the period, and of each domain number n at index n - 1 whether it is planned, its reservation Q, reclaim cap R,
+// writeback cap W and writeback reservation.
 pub struct Plan {
     pub period: u16,
     pub planned: [bool; 16],
     pub reservation: [u16; 16],
     pub reclaimcap: [u16; 16],
     pub writebackcap: [u16; 16],
+    pub writebackreservation: [u16; 16],
 }
 
 // A domain by itself, as a record of a plan file states it.
@@ -22,6 +23,7 @@ pub struct Domain {
     pub reservation: u16,
     pub reclaimcap: u16,
     pub writebackcap: u16,
+    pub writebackreservation: u16,
 }
 
 // The number of a refusal and its place, both 0 where nothing is refused.
@@ -41,15 +43,21 @@ pub fn check(p: Plan) -> Refusal
             place: 0,
         };
     }
-    let j = lowest_above(p);
+    let j = lowest_fault(p, false);
     if j < 16 {
         return Refusal {
             refused: 9,
             place: (j + 1) as u16,
         };
     }
-    let q = p.reservation;
-    if (period as u32) < table::total(q) {
+    let over = lowest_fault(p, true);
+    if over < 16 {
+        return Refusal {
+            refused: 11,
+            place: (over + 1) as u16,
+        };
+    }
+    if (period as u32) < all_reserved(p) {
         return Refusal {
             refused: 10,
             place: 0,
@@ -82,19 +90,57 @@ fn most_of(planned: bool, period: u16) -> u16
     if planned { period } else { 0 }
 }
 
-// The lowest index of a domain whose numbers are out of range, or 16 where there is none.
-fn lowest_above(p: Plan) -> usize
-    ensures { λ r. ⌜ (r ≡ lowest (outOfRange p) 16) × (ltb r 16 ≡ someBelow (outOfRange p) 16) ⌝ }
+// Is the domain absent, and has a writeback reservation?
+fn holds_absent(planned: bool, reservation: u16) -> bool
+    ensures { λ r. ⌜ r ≡ holdsAbsent planned reservation ⌝ }
+{
+    !planned && 0 < reservation
+}
+
+// Is the writeback reservation above the writeback cap?
+pub(crate) fn is_above_cap(cap: u16, reservation: u16) -> bool
+    ensures { λ r. ⌜ r ≡ aboveCap cap reservation ⌝ }
+{
+    cap < reservation
+}
+
+// Are the numbers of the domain at index j out of range (9), or, where it is asked, is its writeback reservation above
+// its cap (11)?
+fn fault_at(p: Plan, capped: bool, j: usize) -> bool
+    requires { ⌜ j < 16 ⌝ }
+    ensures { λ r. ⌜ r ≡ cond capped (overCap p j) (outOfRange p j) ⌝ }
+{
+    if capped {
+        return is_above_cap(p.writebackcap[j], p.writebackreservation[j]);
+    }
+    let most = most_of(p.planned[j], p.period);
+    if any_above(most, p.reservation[j], p.reclaimcap[j], p.writebackcap[j]) {
+        return true;
+    }
+    holds_absent(p.planned[j], p.writebackreservation[j])
+}
+
+// The lowest index of a domain with that fault, or 16 where there is none.
+fn lowest_fault(p: Plan, capped: bool) -> usize
+    ensures { λ r. ⌜ (r ≡ lowest (λ (j : ℕ). cond capped (overCap p j) (outOfRange p j)) 16) × (ltb r 16 ≡ someBelow (λ (j : ℕ). cond capped (overCap p j) (outOfRange p j)) 16) ⌝ }
 {
     let mut j = 0;
     while j < 16 {
-        let most = most_of(p.planned[j], p.period);
-        if any_above(most, p.reservation[j], p.reclaimcap[j], p.writebackcap[j]) {
+        if fault_at(p, capped, j) {
             return j;
         }
         j += 1;
     }
     16
+}
+
+// What all domains reserve together.
+fn all_reserved(p: Plan) -> u32
+    ensures { λ r. ⌜ r ≡ reserved p ⌝ }
+{
+    let q = p.reservation;
+    let w = p.writebackreservation;
+    table::total(q) + table::total(w)
 }
 
 // A plan of a period, without domains.
@@ -107,6 +153,7 @@ pub(crate) fn no_domains(period: u16) -> Plan
         reservation: [0; 16],
         reclaimcap: [0; 16],
         writebackcap: [0; 16],
+        writebackreservation: [0; 16],
     }
 }
 
@@ -121,12 +168,13 @@ pub(crate) fn with_domain(p: Plan, d: Domain) -> Plan
     next.reservation[at] = d.reservation;
     next.reclaimcap[at] = d.reclaimcap;
     next.writebackcap[at] = d.writebackcap;
+    next.writebackreservation[at] = d.writebackreservation;
     next
 }
 
 // What a domain reserves.
 pub(crate) fn reserves(d: Domain) -> u32
-    ensures { λ r. ⌜ (r ≡ reserves d) × (r ≤ 65535) ⌝ }
+    ensures { λ r. ⌜ (r ≡ reserves d) × (r ≤ 131070) ⌝ }
 {
-    d.reservation as u32
+    d.reservation as u32 + d.writebackreservation as u32
 }

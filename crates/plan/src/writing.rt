@@ -31,6 +31,7 @@ fn list_domains(p: Plan) -> Listed
         reservation: 0,
         reclaimcap: 0,
         writebackcap: 0,
+        writebackreservation: 0,
     };
     let mut domains = [none; 16];
     let mut count = 0;
@@ -43,6 +44,7 @@ fn list_domains(p: Plan) -> Listed
             reservation: p.reservation[j],
             reclaimcap: p.reclaimcap[j],
             writebackcap: p.writebackcap[j],
+            writebackreservation: p.writebackreservation[j],
         };
         count += 1;
     }

@@ -1,59 +1,73 @@
 // What a decided slot does to the state, from the number granted.
 ghost use mathlib.Core.Path.{_≡_};
-ghost use mathlib.Core.Bool.{true, cond};
+ghost use mathlib.Core.Bool.{true, false, cond};
 ghost use Prim.Native.Nat.{_+_, _-_, _<_, _≤_};
-ghost use lib.Dec.{eqb};
+ghost use mathlib.Core.Logic.{_≢_};
+ghost use lib.Dec.{eqb, ltb};
 ghost use lib.ListN.{length};
-ghost use Rattle.table.specs.Sums.{nth};
+ghost use Rattle.table.specs.Sums.{nth, lowered};
 ghost use Rattle.regulator.specs.State.{addsUp};
 ghost use Rattle.regulator.specs.Turn.{after};
-ghost use Rattle.regulator.specs.Grant.{onClaim, onStock, onNeither, domainGrant, grant, onward};
+ghost use Rattle.regulator.specs.Grant.{onClaim, onStock, onNeither, onWriteback, domainGrant, grant, onward};
 use super::numbers;
 use super::state::State;
 use super::turn;
 
-// 1 for a writeback, and else 0.
-fn one_if(writeback: bool) -> u16
-    ensures { λ r. ⌜ (r ≡ cond writeback 1 0) × (r ≤ 1) ⌝ }
-{
-    if writeback { 1 } else { 0 }
-}
-
-fn on_claim(s: State, j: usize, writeback: bool) -> State
+fn on_claim(s: State, j: usize) -> State
     requires { ⌜ j < 16 ⌝ }
     requires { ⌜ 0 < nth (s .claim) j ⌝ }
     requires { ⌜ nth (s .reserved) j < 65535 ⌝ }
-    requires { ⌜ nth (s .writebacks) j < 65535 ⌝ }
-    ensures { λ r. ⌜ r ≡ onClaim s j writeback ⌝ }
+    ensures { λ r. ⌜ r ≡ onClaim s j ⌝ }
 {
     let claim = s.claim;
     let reserved = s.reserved;
-    let writebacks = s.writebacks;
     let less = numbers::lower(claim, j, 1);
     let more = numbers::raise(reserved, j, 1);
-    let written = numbers::raise(writebacks, j, one_if(writeback));
     let mut t = s;
     t.claim = less;
     t.reserved = more;
-    t.writebacks = written;
     t
 }
 
-fn on_stock(s: State, j: usize, writeback: bool) -> State
+fn on_stock(s: State, j: usize) -> State
     requires { ⌜ j < 16 ⌝ }
     requires { ⌜ 0 < s .stock ⌝ }
     requires { ⌜ nth (s .reclaimed) j < 65535 ⌝ }
-    requires { ⌜ nth (s .writebacks) j < 65535 ⌝ }
-    ensures { λ r. ⌜ r ≡ onStock s j writeback ⌝ }
+    ensures { λ r. ⌜ r ≡ onStock s j ⌝ }
 {
     let reclaimed = s.reclaimed;
-    let writebacks = s.writebacks;
     let more = numbers::raise(reclaimed, j, 1);
-    let written = numbers::raise(writebacks, j, one_if(writeback));
     let mut t = s;
     t.stock = s.stock - 1;
     t.reclaimed = more;
-    t.writebacks = written;
+    t
+}
+
+// The claims with 1 less at index j, if there is any.
+fn use_claim(claims: [u16; 16], j: usize) -> [u16; 16]
+    requires { ⌜ j < 16 ⌝ }
+    ensures { λ r. ⌜ r ≡ cond (ltb 0 (nth claims j)) (lowered claims j 1) claims ⌝ }
+{
+    if 0 < numbers::at(claims, j) {
+        numbers::lower(claims, j, 1)
+    } else {
+        claims
+    }
+}
+
+// A writeback, on writeback claim or on neither.
+fn on_writeback(s: State, j: usize) -> State
+    requires { ⌜ j < 16 ⌝ }
+    requires { ⌜ nth (s .writebacks) j < 65535 ⌝ }
+    ensures { λ r. ⌜ r ≡ onWriteback s j (ltb 0 (nth (s .writebackclaim) j)) ⌝ }
+{
+    let writebacks = s.writebacks;
+    let claims = s.writebackclaim;
+    let more = numbers::raise(writebacks, j, 1);
+    let left = use_claim(claims, j);
+    let mut t = s;
+    t.writebacks = more;
+    t.writebackclaim = left;
     t
 }
 
@@ -71,14 +85,17 @@ fn on_neither(s: State, idle: u16, best: u16) -> State
 fn grant_domain(s: State, j: usize, writeback: bool) -> State
     requires { ⌜ j < 16 ⌝ }
     requires { ⌜ addsUp s ≡ true ⌝ }
-    requires { ⌜ (nth (s .claim) j ≡ 0 → 0 < s .stock) ⌝ }
+    requires { ⌜ (writeback ≡ false → nth (s .claim) j ≡ 0 → 0 < s .stock) ⌝ }
     ensures { λ r. ⌜ r ≡ domainGrant s j writeback ⌝ }
 {
+    if writeback {
+        return on_writeback(s, j);
+    }
     let claim = s.claim;
     if 0 < numbers::at(claim, j) {
-        on_claim(s, j, writeback)
+        on_claim(s, j)
     } else {
-        on_stock(s, j, writeback)
+        on_stock(s, j)
     }
 }
 
@@ -87,7 +104,7 @@ pub(crate) fn grant_number(s: State, offers: &[u8], n: usize) -> State
     requires { ⌜ n ≤ 17 ⌝ }
     requires { ⌜ length (now offers) ≡ 17 ⌝ }
     requires { ⌜ addsUp s ≡ true ⌝ }
-    requires { ⌜ (0 < n → n < 17 → nth (s .claim) (n - 1) ≡ 0 → 0 < s .stock) ⌝ }
+    requires { ⌜ (0 < n → n < 17 → nth (now offers) n ≢ 2 → nth (s .claim) (n - 1) ≡ 0 → 0 < s .stock) ⌝ }
     ensures { λ r. ⌜ r ≡ grant s (now (offers .entry)) n ⌝ }
 {
     if n == 17 {

@@ -1,10 +1,10 @@
 // The regulator: the state of a period, one slot, the close of a period, and the calls.
 //
-// open(plan): the state that a plan starts with; or 2, 9 or 10 with its place.
+// open(plan): the state that a plan starts with; or 2, 9, 11 or 10 with its place.
 // slot(state, offers, verdicts): one slot decided, for any state, bytes and lengths; or 30, 34, 31, 32 or 33.
 // yield_claim(state, domain, k): claim moved to the stock, for any state and numbers; or 30, 34, 21, 22 or 23.
-// hand_in(state, plan): a plan that takes force when the open period ends, for any state and plan; or 30, 34, or 2, 9 or 10
-// with its place.
+// hand_in(state, plan): a plan that takes force when the open period ends, for any state and plan; or 30, 34, or 2, 9, 11 or
+// 10 with its place.
 //
 // run_slot, run_yield and run_hand_in are the same calls for a caller whose state is known to add up, as every state of a run
 // from an opened plan does: they require it, and do not check it again.

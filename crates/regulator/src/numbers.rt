@@ -1,7 +1,14 @@
-// One of sixteen numbers: read, raised or lowered.
+// One of sixteen numbers, read, raised or lowered; and a difference.
 ghost use mathlib.Core.Path.{_≡_};
-ghost use Prim.Native.Nat.{_+_, _<_, _≤_};
+ghost use Prim.Native.Nat.{_+_, _-_, _<_, _≤_};
 ghost use Rattle.table.specs.Sums.{nth, raised, lowered};
+
+// a less b, or 0 if b exceeds it.
+pub(crate) fn less(a: u16, b: u16) -> u16
+    ensures { λ r. ⌜ r ≡ a - b ⌝ }
+{
+    if b < a { a - b } else { 0 }
+}
 
 pub(crate) fn at(a: [u16; 16], j: usize) -> u16
     requires { ⌜ j < 16 ⌝ }

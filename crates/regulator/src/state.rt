@@ -17,7 +17,7 @@ pub struct Waiting {
 
 // The state of a period. Index n - 1 of the arrays is domain number n; decided is the number of slots decided, closed of
 // periods closed, best of best-effort passes, and steps of the numbers asked and passed by in the period; plan is the one in
-// force.
+// force, claim is of accesses, and writebackclaim of writebacks.
 pub struct State {
     pub plan: Plan,
     pub decided: u16,
@@ -33,6 +33,7 @@ pub struct State {
     pub writebacks: [u16; 16],
     pub steps: u32,
     pub waiting: Waiting,
+    pub writebackclaim: [u16; 16],
 }
 
 // The plan of all zeros.
@@ -45,6 +46,7 @@ pub(crate) fn no_plan() -> Plan
         reservation: [0; 16],
         reclaimcap: [0; 16],
         writebackcap: [0; 16],
+        writebackreservation: [0; 16],
     }
 }
 
@@ -53,6 +55,7 @@ pub(crate) fn begin(p: Plan, closed: u32, turn: usize) -> State
     ensures { λ r. ⌜ r ≡ begun p closed turn ⌝ }
 {
     let claim = p.reservation;
+    let writebackclaim = p.writebackreservation;
     let none = no_plan();
     State {
         plan: p,
@@ -72,6 +75,7 @@ pub(crate) fn begin(p: Plan, closed: u32, turn: usize) -> State
             given: false,
             plan: none,
         },
+        writebackclaim,
     }
 }
 
@@ -82,15 +86,17 @@ fn numbers_add_up(
     reclaimed: u16,
     yielded: u16,
     writebacks: u16,
+    writebackclaim: u16,
     q: u16,
     r: u16,
     w: u16,
+    writebackreservation: u16,
 ) -> bool
-    ensures { λ b. ⌜ b ≡ numbersAddUp claim reserved reclaimed yielded writebacks q r w ⌝ }
+    ensures { λ b. ⌜ b ≡ numbersAddUp claim reserved reclaimed yielded writebacks writebackclaim q r w writebackreservation ⌝ }
 {
+    let left = numbers::less(writebackreservation, writebacks);
     claim as u32 + reserved as u32 + yielded as u32 == q as u32
-        && (reclaimed <= r
-            && (writebacks <= w && writebacks as u32 <= reserved as u32 + reclaimed as u32))
+        && (reclaimed <= r && (writebacks <= w && writebackclaim == left))
 }
 
 fn domains_add_up(s: State) -> bool
@@ -105,9 +111,11 @@ fn domains_add_up(s: State) -> bool
             s.reclaimed[j],
             s.yielded[j],
             s.writebacks[j],
+            s.writebackclaim[j],
             p.reservation[j],
             p.reclaimcap[j],
             p.writebackcap[j],
+            p.writebackreservation[j],
         ) {} else {
             return false;
         }
@@ -125,19 +133,13 @@ fn sums_add_up(
     reserved: u32,
     reclaimed: u32,
     yielded: u32,
+    writebacks: u32,
 ) -> bool
-    requires { ⌜ (reserved ≤ 1048560) × (reclaimed ≤ 1048560) ⌝ }
-    ensures { λ b. ⌜ b ≡ sumsAddUp stock idle best decided reserved reclaimed yielded ⌝ }
+    requires { ⌜ (reserved ≤ 1048560) × (reclaimed ≤ 1048560) × (writebacks ≤ 1048560) ⌝ }
+    ensures { λ b. ⌜ b ≡ sumsAddUp stock idle best decided reserved reclaimed yielded writebacks ⌝ }
 {
     stock as u32 + reclaimed == yielded
-        && idle as u32 + best as u32 + reserved + reclaimed == decided as u32
-}
-
-// The slots that were not idle.
-fn granted_slots(decided: u16, idle: u16) -> u16
-    ensures { λ r. ⌜ r ≡ decided - idle ⌝ }
-{
-    if idle < decided { decided - idle } else { 0 }
+        && idle as u32 + best as u32 + reserved + reclaimed + writebacks == decided as u32
 }
 
 // Does the running sum of steps add up? 17 for each idle slot, and at most 16 for each other.
@@ -145,7 +147,7 @@ fn steps_add_up(steps: u32, idle: u16, decided: u16) -> bool
     ensures { λ b. ⌜ b ≡ stepsAddUp steps idle decided ⌝ }
 {
     let least = 17 * idle as u32;
-    let most = least + 16 * granted_slots(decided, idle) as u32;
+    let most = least + 16 * numbers::less(decided, idle) as u32;
     least <= steps && steps <= most
 }
 
@@ -177,6 +179,7 @@ pub(crate) fn adds_up(s: State) -> bool
     let reserved = s.reserved;
     let reclaimed = s.reclaimed;
     let yielded = s.yielded;
+    let writebacks = s.writebacks;
     let domains = domains_add_up(s);
     let sums = sums_add_up(
         s.stock,
@@ -186,6 +189,7 @@ pub(crate) fn adds_up(s: State) -> bool
         table::total(reserved),
         table::total(reclaimed),
         table::total(yielded),
+        table::total(writebacks),
     );
     let steps = steps_add_up(s.steps, s.idle, s.decided);
     let w = s.waiting;

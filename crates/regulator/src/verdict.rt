@@ -1,11 +1,13 @@
 // What each number is told in a slot, before one of those that pass is granted: 2 for one that passes.
 ghost use mathlib.Core.Path.{_≡_};
+ghost use mathlib.Core.Bool.{not, _&&_};
 ghost use Prim.Native.Nat.{_≤_};
+ghost use lib.Dec.{eqb};
 ghost use lib.ListN.{length};
 ghost use lib.IntN.{pos, _-ℤ_};
 ghost use lib.Signed.{leZ};
 ghost use Rattle.table.specs.Ranges.{someBelow};
-ghost use Rattle.regulator.specs.Verdict.{atCap, waits, waiting, blocked as blockedIn, ruling, bestRuling, domainRuling};
+ghost use Rattle.regulator.specs.Verdict.{atCap, claimOf, waits, waiting, blocked as blockedIn, ruling, bestRuling, domainRuling};
 ghost use Rattle.regulator.specs.Turn.{rulings};
 use super::state::State;
 
@@ -16,12 +18,19 @@ fn is_at_cap(offer: u8, writebacks: u16, w: u16) -> bool
     offer == 2 && writebacks == w
 }
 
-// Is a domain of these numbers waiting on claim?
-fn is_waiting(offer: u8, claim: u16, writebacks: u16, w: u16) -> bool
-    ensures { λ b. ⌜ b ≡ waits offer claim writebacks w ⌝ }
+// The claim of the kind that is offered.
+fn claim_of(offer: u8, claim: u16, writebackclaim: u16) -> u16
+    ensures { λ r. ⌜ r ≡ claimOf offer claim writebackclaim ⌝ }
 {
-    let capped = is_at_cap(offer, writebacks, w);
-    offer != 0 && (0 < claim && !capped)
+    if offer == 2 { writebackclaim } else { claim }
+}
+
+// Is a domain of these numbers waiting on claim?
+fn is_waiting(offer: u8, claim: u16, writebackclaim: u16) -> bool
+    ensures { λ b. ⌜ b ≡ waits offer claim writebackclaim ⌝ }
+{
+    let left = claim_of(offer, claim, writebackclaim);
+    offer != 0 && 0 < left
 }
 
 // Is some domain waiting on claim?
@@ -29,15 +38,9 @@ fn any_waiting(s: State, offers: &[u8]) -> bool
     requires { ⌜ length (now offers) ≡ 17 ⌝ }
     ensures { λ b. ⌜ b ≡ someBelow (waiting s (now (offers .entry))) 16 ⌝ }
 {
-    let p = s.plan;
     let mut j = 0;
     while j < 16 {
-        if is_waiting(
-            offers[j + 1],
-            s.claim[j],
-            s.writebacks[j],
-            p.writebackcap[j],
-        ) {
+        if is_waiting(offers[j + 1], s.claim[j], s.writebackclaim[j]) {
             return true;
         }
         j += 1;
@@ -47,7 +50,7 @@ fn any_waiting(s: State, offers: &[u8]) -> bool
 
 // Is loose, the slots left less the summed claims, at most 0?
 fn is_tight(left: u16, claims: u32) -> bool
-    requires { ⌜ claims ≤ 1048560 ⌝ }
+    requires { ⌜ claims ≤ 2097120 ⌝ }
     ensures { λ b. ⌜ b ≡ leZ (pos left -ℤ pos claims) (pos 0) ⌝ }
 {
     let loose = left as i32 - claims as i32;
@@ -61,7 +64,9 @@ pub(crate) fn is_blocked(s: State, offers: &[u8]) -> bool
 {
     let p = s.plan;
     let claim = s.claim;
-    let tight = is_tight(p.period - s.decided, table::total(claim));
+    let writebackclaim = s.writebackclaim;
+    let claims = table::total(claim) + table::total(writebackclaim);
+    let tight = is_tight(p.period - s.decided, claims);
     let some = any_waiting(s, offers);
     tight && some
 }
@@ -94,27 +99,31 @@ fn rule_best(offer: u8, blocked: bool) -> u8
     first_line(offer == 0, false, false, false, false, blocked)
 }
 
+// Does a test that only an access is held to apply?
+fn of_access(offer: u8, test: bool) -> bool
+    ensures { λ b. ⌜ b ≡ (not (eqb offer 2) && test) ⌝ }
+{
+    offer != 2 && test
+}
+
 fn rule_domain(
     offer: u8,
     claim: u16,
     reclaimed: u16,
     writebacks: u16,
+    writebackclaim: u16,
     r: u16,
     w: u16,
     stock: u16,
     blocked: bool,
 ) -> u8
-    ensures { λ v. ⌜ v ≡ domainRuling offer claim reclaimed writebacks r w stock blocked ⌝ }
+    ensures { λ v. ⌜ v ≡ domainRuling offer claim reclaimed writebacks writebackclaim r w stock blocked ⌝ }
 {
     let capped = is_at_cap(offer, writebacks, w);
-    first_line(
-        offer == 0,
-        capped,
-        0 < claim,
-        reclaimed == r,
-        stock == 0,
-        blocked,
-    )
+    let left = claim_of(offer, claim, writebackclaim);
+    let full = of_access(offer, reclaimed == r);
+    let empty = of_access(offer, stock == 0);
+    first_line(offer == 0, capped, 0 < left, full, empty, blocked)
 }
 
 // The rulings of all numbers, to a lent buffer.
@@ -133,6 +142,7 @@ pub(crate) fn rule(s: State, offers: &[u8], blocked: bool, verdicts: &mut [u8])
             s.claim[j],
             s.reclaimed[j],
             s.writebacks[j],
+            s.writebackclaim[j],
             p.reclaimcap[j],
             p.writebackcap[j],
             s.stock,

@@ -172,8 +172,8 @@ fn model_call(words: &mut [u64], counts: &mut [u64], c: Call, p: Plan) -> Told {
 }
 
 pub fn answered(now: &mut [u64], counts: &mut [u64], c: Call) -> Outcome {
-    let mut words = [0u64; 306];
-    let mut due = [0u64; 153];
+    let mut words = [0u64; 374];
+    let mut due = [0u64; 187];
     let p = forms::plan_of(now, forms::GIVEN);
     forms::copy(&mut words, now);
     let model = model_call(&mut words, &mut due, c, p);
@@ -208,6 +208,7 @@ fn entered_plan(page: &mut [u64], p: Plan, opens: bool, refused: bool) -> Entry 
         return Entry {
             complete: false,
             asked: 0,
+            twofold: 0,
             faults: 0,
         };
     }

@@ -13,12 +13,12 @@ mod run;
 mod script;
 mod seen;
 
-const KINDS: u32 = 26;
+const KINDS: u32 = 28;
 
 fn start() -> Run {
     Run {
         tally: tally::start(),
-        seen: Seen { counts: [0; 70] },
+        seen: Seen { counts: [0; 86] },
         before: 0,
     }
 }

@@ -21,7 +21,7 @@ fn say_name(kind: u32) {
         runs with no domains\n\
         runs with sixteen domains\n\
         runs with all Q zero\n\
-        runs with sums of Q equal to P\n\
+        runs with sums of both reservations equal to P\n\
         runs with many yields\n\
         runs with few offers\n\
         runs with greedy offers\n\
@@ -38,7 +38,9 @@ fn say_name(kind: u32) {
         runs with plans handed in\n\
         runs that begin with P 1, with plans handed in\n\
         states whose waiting plan would be refused\n\
-        states beside whose flag, which is off, lies a plan that would be refused\n",
+        states beside whose flag, which is off, lies a plan that would be refused\n\
+        states with writebacks, their claims or reservations off\n\
+        runs with many writebacks and no writeback reservations\n",
         kind as usize,
     );
 }
@@ -51,7 +53,7 @@ pub fn kind_line(t: Tally, kind: u32) {
 // What was seen, the refusals, the total, and where something differed its first kind and case.
 pub fn last_lines(t: Tally, s: Seen) {
     seen::lines(s);
-    report::told_lines(t, &[2, 9, 10, 21, 22, 23, 30, 31, 32, 33, 34]);
+    report::told_lines(t, &[2, 9, 10, 11, 21, 22, 23, 30, 31, 32, 33, 34]);
     if t.alldiffer != 0 {
         say(b"first difference: ");
         say_name(t.firstkind);

@@ -19,6 +19,7 @@ use trial_states::handing;
 use trial_states::marks;
 use trial_states::styles::Style;
 use trial_states::sums;
+use trial_states::writes;
 
 // What was compared and seen so far, and the domains of the plan before the one in force, 0 where there was none.
 pub struct Run {
@@ -56,12 +57,18 @@ fn with_plan(r: Run, words: &[u64], what: u8, number: u32) -> Run {
     after
 }
 
-// The run with what a slot call or a yield showed of such plans; an opening has no plan before it.
+// The run with what a slot call or a yield showed of such plans and of writebacks; an opening has no plan before it.
 fn with_marks(r: Run, words: &[u64], c: Call, t: Told) -> Run {
     let mut after = r;
     let so_far = r.seen;
+    let verdicts = t.verdicts;
     let marks = marks::of_call(words, c, t.number, t.complete, r.before);
-    let more = seen::marked(so_far, seen::CALLS, &marks);
+    let writes = writes::of_call(words, c, verdicts, t.number);
+    let more = seen::marked(
+        seen::marked(so_far, seen::CALLS, &marks),
+        seen::WRITES,
+        &writes,
+    );
     after.seen = more;
     let what = c.what;
     match what {
@@ -97,8 +104,8 @@ pub fn called(
     with_plan(with_marks(after, words, c, t), words, c.what, t.number)
 }
 
-// The run with a changed state more seen, whether it still adds up, where its sum of steps stands, and what lies beside its
-// flag.
+// The run with a changed state more seen, whether it still adds up, where its sum of steps stands, what lies beside its flag,
+// and how its writeback claims stand.
 fn with_change_seen(r: Run, words: &[u64], adds: bool) -> Run {
     let mut after = r;
     let so_far = r.seen;
@@ -108,7 +115,8 @@ fn with_change_seen(r: Run, words: &[u64], adds: bool) -> Run {
     let changed = seen::raised(so_far, seen::CHANGED, 1);
     let adding = seen::raised(changed, seen::ADDING, if adds { 1 } else { 0 });
     let edged = seen::raised(adding, seen::EDGES + sums::edge(words) % 5, 1);
-    let more = seen::marked(edged, seen::BESIDE, &marks);
+    let laid = seen::marked(edged, seen::BESIDE, &marks);
+    let more = seen::marked(laid, seen::CLAIMS, &writes::of_change(words, adds));
     after.seen = more;
     after
 }
@@ -122,7 +130,7 @@ fn drawn_call(
     seed: u32,
     what: u8,
 ) -> Verdict {
-    let mut counts = [0u64; 153];
+    let mut counts = [0u64; 187];
     handing::prepare(words, style, seed, what);
     forms::copy(before, words);
     let c = draws::call(before, style, of.seed, seed, what);
@@ -132,7 +140,7 @@ fn drawn_call(
 
 // The run after a drawn call on these words that no ledger is fed.
 fn with_other(r: Run, words: &mut [u64], of: Case, style: Style, seed: u32, what: u8) -> Run {
-    let mut before = [0u64; 459];
+    let mut before = [0u64; 561];
     let v = drawn_call(words, &mut before, of, style, seed, what);
     with_plan(counted(r, of, v), &before, what, v.number)
 }
@@ -140,8 +148,8 @@ fn with_other(r: Run, words: &mut [u64], of: Case, style: Style, seed: u32, what
 // A slot call on a changed state, a yield on what it answers, and a plan handed in on what that answers, for the kinds that
 // have such states; the run's own state stays.
 fn with_changed(r: Run, now: &[u64], of: Case, style: Style, seed: u32) -> Run {
-    let mut words = [0u64; 459];
-    let mut before = [0u64; 459];
+    let mut words = [0u64; 561];
+    let mut before = [0u64; 561];
     if !changes::has_kind(of.kind) {
         return r;
     }
@@ -161,8 +169,8 @@ fn with_changed(r: Run, now: &[u64], of: Case, style: Style, seed: u32) -> Run {
 
 // A call of a run, entered into the ledger.
 fn with_call(r: Run, now: &mut [u64], page: &mut [u64], of: Case, c: Call) -> Run {
-    let mut before = [0u64; 459];
-    let mut counts = [0u64; 153];
+    let mut before = [0u64; 561];
+    let mut counts = [0u64; 187];
     forms::copy(&mut before, now);
     let o = both::answered(now, &mut counts, c);
     called(r, &before, page, &counts, of, c, o)
@@ -179,8 +187,8 @@ fn step(r: Run, now: &mut [u64], page: &mut [u64], of: Case, style: Style, i: u3
 
 // The opening of the case's plan, and then the steps of its style.
 pub fn tried(before: Run, of: Case, style: Style) -> Run {
-    let mut now = [0u64; 459];
-    let mut page = [0u64; 306];
+    let mut now = [0u64; 561];
+    let mut page = [0u64; 374];
     let p = styles::plan_of(style.plans, of.case, of.seed);
     forms::put_plan(&mut now, forms::GIVEN, p);
     let mut r = with_call(before, &mut now, &mut page, of, calls::opening());

@@ -1,8 +1,8 @@
 // Cases whose outcomes are stated as numbers, read as text lines. The first letter tells what a line is:
 //   case NAME                       a case begins
 //   plan PPPP                       the plan at hand: its period,
-//   domain NN QQQQ RRRR WWWW        each domain,
-//   beside NN QQQQ RRRR WWWW        and numbers of a domain that is not planned
+//   domain NN QQQQ RRRR WWWW VVVV   each domain, V its writeback reservation,
+//   beside NN QQQQ RRRR WWWW VVVV   and numbers of a domain that is not planned
 //   open NN PPPP                    opening it tells this refusal and place
 //   give NN PPPP                    handing it in tells this refusal and place
 //   slot OFFERS VERDICTS NN SS      a slot call, the bytes of the buffer after it (9 before it), its refusal and its steps
@@ -13,8 +13,10 @@
 //   runs                            the plan at hand is in force
 //   waits F                         the plan at hand lies beside the flag, which is 1 where a plan waits
 //   lay F                           the plan at hand is put beside the flag, and the flag to this, in the ledger too
-//   has RR C VVVVVVVVVV             the word of the state in this row and column of the model; the flag is 17 1
-//   alter RR C VVVVVVVVVV           that word is put to a value, in the ledger too
+//   has RR CC VVVVVVVVVV            the word of the state in this row and column of the model; the flag is 17 01
+//   entry RR CC VVVVVVVVVV          the same of the ledger's page, where 00 of a domain tells whether it kept asking, and 03 its
+//                                   writebacks on claim
+//   alter RR CC VVVVVVVVVV          that word is put to a value, in the ledger too
 ghost use Prim.Native.Nat.{_≤_};
 use super::both;
 use super::both::Outcome;
@@ -145,7 +147,7 @@ fn call_line(
     counts: &mut [u64],
     page: &mut [u64],
 ) -> Script {
-    let mut words = [0u64; 459];
+    let mut words = [0u64; 561];
     let c = call_of(text, at);
     forms::copy(&mut words, now);
     let o = both::answered(now, counts, c);
@@ -179,43 +181,59 @@ fn row_told(c: &[u64], text: &[u8], at: usize) -> bool {
         let slots = tally::both(tells(c, text, at, 3, 8, 4), tells(c, text, at, 4, 13, 4));
         return tally::both(slots, tells(c, text, at, 7, 18, 5));
     }
-    let passes = tally::both(tells(c, text, at, 5, 8, 4), tells(c, text, at, 6, 13, 4));
-    let others = tally::both(tells(c, text, at, 7, 18, 4), tells(c, text, at, 8, 23, 4));
+    let passes = tally::both(tells(c, text, at, 6, 8, 4), tells(c, text, at, 7, 13, 4));
+    let others = tally::both(tells(c, text, at, 8, 18, 4), tells(c, text, at, 9, 23, 4));
     tally::both(passes, others)
 }
 
 // Whether the plan that begins at a word is the plan at hand.
 fn is_given(now: &[u64], from: usize) -> bool
-    requires { ⌜ from ≤ 153 ⌝ }
+    requires { ⌜ from ≤ 187 ⌝ }
 {
-    let mut found = [0u64; 153];
-    let mut given = [0u64; 153];
+    let mut found = [0u64; 187];
+    let mut given = [0u64; 187];
     forms::put_plan(&mut found, forms::FORCE, forms::plan_of(now, from));
     forms::put_plan(&mut given, forms::FORCE, forms::plan_of(now, forms::GIVEN));
     forms::same_words(&found, &given)
 }
 
-// Whether the state, or the counts of the last call, are as a line states.
-fn holds(text: &[u8], at: usize, now: &[u64], counts: &[u64], complete: bool) -> bool {
-    let row = lines::small(text, at, 4, 2) as usize;
-    let word = forms::word(now, 9 * row + lines::digit(text, at, 7) as usize);
+// Whether the word in the row and column that stand at an offset is the number behind them.
+fn is_word(words: &[u64], text: &[u8], at: usize, offset: usize) -> bool
+    requires { ⌜ offset ≤ 6 ⌝ }
+{
+    let row = lines::small(text, at, offset, 2) as usize;
+    let column = lines::small(text, at, offset + 3, 2) as usize;
+    forms::word(words, 11 * row + column) == lines::number(text, at, offset + 6, 10)
+}
+
+// Whether the state, the ledger's page, or the counts of the last call, are as a line states.
+fn holds(
+    text: &[u8],
+    at: usize,
+    now: &[u64],
+    page: &[u64],
+    counts: &[u64],
+    complete: bool,
+) -> bool {
     let flag = forms::word(now, forms::WAITS) == lines::number(text, at, 6, 1);
     match lines::byte(text, at) {
         b't' => tally::both(complete, row_told(counts, text, at)),
         b'n' => !complete,
         b'r' => is_given(now, forms::FORCE),
         b'w' => tally::both(flag, is_given(now, forms::NEXT)),
-        _ => word == lines::number(text, at, 9, 10),
+        b'e' => is_word(page, text, at, 6),
+        _ => is_word(now, text, at, 4),
     }
 }
 
 // A domain of the plan at hand, planned or not.
 fn put_domain(text: &[u8], at: usize, now: &mut [u64], planned: u64) {
-    let row = forms::GIVEN + 9 * lines::small(text, at, 7, 2) as usize;
+    let row = forms::GIVEN + 11 * lines::small(text, at, 7, 2) as usize;
     forms::put(now, row, planned);
     forms::put(now, row + 1, lines::number(text, at, 10, 4));
     forms::put(now, row + 2, lines::number(text, at, 15, 4));
     forms::put(now, row + 3, lines::number(text, at, 20, 4));
+    forms::put(now, row + 4, lines::number(text, at, 25, 4));
 }
 
 // The plan at hand put beside the flag, and the flag.
@@ -225,8 +243,9 @@ fn lay(words: &mut [u64], p: Plan, flag: u64) {
 }
 
 fn alter(text: &[u8], at: usize, now: &mut [u64], page: &mut [u64]) {
-    let k = 9 * lines::small(text, at, 6, 2) as usize + lines::digit(text, at, 9) as usize;
-    let value = lines::number(text, at, 11, 10);
+    let row = lines::small(text, at, 6, 2) as usize;
+    let k = 11 * row + lines::small(text, at, 9, 2) as usize;
+    let value = lines::number(text, at, 12, 10);
     forms::put(page, k, value);
     forms::put(now, k, value);
     forms::fit(now);
@@ -291,15 +310,15 @@ fn line(
             put_line(text, at, now, page);
             s
         }
-        _ => stated(s, holds(text, at, now, counts, s.complete)),
+        _ => stated(s, holds(text, at, now, page, counts, s.complete)),
     }
 }
 
 // All cases of the text. Its last line begins a case without a name, so that the one before is printed.
 pub fn cases(before: Run, text: &[u8]) -> Run {
-    let mut now = [0u64; 459];
-    let mut counts = [0u64; 153];
-    let mut page = [0u64; 306];
+    let mut now = [0u64; 561];
+    let mut counts = [0u64; 187];
+    let mut page = [0u64; 374];
     let mut s = Script {
         run: before,
         of: Case {

@@ -7,9 +7,9 @@ use trial_kit::report;
 use trial_kit::tally::both;
 use trial_states::calls;
 
-// How often verdicts 0 to 6 were told stands at 0 to 6, how often steps 0 to 17 at 52 to 69.
+// How often verdicts 0 to 6 were told stands at 0 to 6, how often steps 0 to 17 at 68 to 85.
 pub struct Seen {
-    pub counts: [u32; 70],
+    pub counts: [u32; 86],
 }
 
 pub const IDLE: usize = 7;
@@ -44,11 +44,19 @@ const RENEWED: usize = 44;
 
 pub const BESIDE: usize = 45;
 
-const STEPS: usize = 52;
+// The domains with both reservations that kept asking; what calls showed of writebacks, and changed states by how their
+// writeback claims stand.
+const TWOFOLD: usize = 53;
+
+pub const WRITES: usize = 54;
+
+pub const CLAIMS: usize = 63;
+
+const STEPS: usize = 68;
 
 pub fn raised(seen: Seen, k: usize, by: u32) -> Seen {
     let mut after = seen;
-    let at = k % 70;
+    let at = k % 86;
     let x = after.counts[at];
     if x < 1000000000 {
         after.counts[at] = x + by % 65536;
@@ -61,12 +69,10 @@ pub fn marked(seen: Seen, from: usize, marks: &[bool]) -> Seen {
     let mut after = seen;
     let mut k: usize = 0;
     while k < marks.len() {
-        let next = raised(
-            after,
-            std::num::wrapping_add_usize(from, k),
-            if marks[k] { 1 } else { 0 },
-        );
-        after = next;
+        if marks[k] {
+            let next = raised(after, std::num::wrapping_add_usize(from, k), 1);
+            after = next;
+        }
         k += 1;
     }
     after
@@ -128,7 +134,8 @@ fn with_slot(seen: Seen, t: Told, counts: &[u64]) -> Seen {
 // A call of a run and its entry in the ledger, under a plan that was handed in or not.
 pub fn with_call(seen: Seen, what: u8, t: Told, e: Entry, counts: &[u64], renewed: bool) -> Seen {
     let kept = raised(seen, RENEWED, if renewed { e.asked } else { 0 });
-    let after = raised(raised(kept, ASKED, e.asked), FAULTS, e.faults);
+    let asked = raised(raised(kept, ASKED, e.asked), TWOFOLD, e.twofold);
+    let after = raised(asked, FAULTS, e.faults);
     if both(what == calls::SLOT, t.number == 0) {
         with_slot(after, t, counts)
     } else {
@@ -178,7 +185,7 @@ fn say_of_plans(k: usize) {
         plans taken without a domain that has claim left\n\
         plans taken with other numbers for a domain of the plan in force\n\
         plans taken while claim, stock and writebacks stand\n\
-        plans refused with 2, 9 or 10 while another waits\n\
+        plans refused with 2, 9, 11 or 10 while another waits\n\
         plans refused with 30\n\
         plans refused with 34\n\
         periods at whose end a plan took force\n\
@@ -194,6 +201,7 @@ fn say_of_plans(k: usize) {
         changed states in which a plan waits\n\
         changed states whose waiting plan is refused with 2\n\
         changed states whose waiting plan is refused with 9\n\
+        changed states whose waiting plan is refused with 11\n\
         changed states whose waiting plan is refused with 10\n\
         changed states with a plan beside a flag that is off\n\
         changed states with a plan beside that flag that would be refused\n\
@@ -202,11 +210,37 @@ fn say_of_plans(k: usize) {
     );
 }
 
+// The lines of writebacks, from 0 on.
+fn say_of_writes(k: usize) {
+    say_nth(
+        b"domains with both reservations that kept asking through a completed period\n\
+        writebacks granted on claim\n\
+        writebacks granted without claim while access claim is left\n\
+        writebacks granted with neither claim left\n\
+        slots with 6 for a writeback without claim while its access claim is left\n\
+        slots with 6 for somebody while writeback claims alone are waited on\n\
+        slots where nobody waits, though loose is at most 0 and one with access claim offers a writeback\n\
+        slots with 6 for somebody where loose is above 0 by access claims alone\n\
+        slots with 3 for a writeback while access claim is left\n\
+        yields refused with 23 that both claims together would allow\n\
+        changed states with a writeback claim one above its due, writebacks below the reservation\n\
+        changed states with a writeback claim one below its due, writebacks below the reservation\n\
+        changed states with a writeback claim of 1, writebacks equal to the reservation\n\
+        changed states with a writeback claim, writebacks above the reservation\n\
+        changed states with writebacks above the reservation that add up\n",
+        k,
+    );
+}
+
 fn say_name(k: usize) {
     if k < PLANS {
         say_first(k);
-    } else {
+        return;
+    }
+    if k < TWOFOLD {
         say_of_plans(k - PLANS);
+    } else {
+        say_of_writes(k - TWOFOLD);
     }
 }
 
@@ -214,7 +248,7 @@ fn say_name(k: usize) {
 fn steps_line(seen: Seen) {
     report::say(b"slots by their steps, 0 to 17:");
     let mut k: usize = STEPS;
-    while k < 70 {
+    while k < 86 {
         report::say_number(b" ", seen.counts[k]);
         k += 1;
     }

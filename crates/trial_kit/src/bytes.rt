@@ -40,23 +40,25 @@ pub fn put_pair(file: &mut [u8], record: u32, offset: u32, value: u32) {
     put(file, at + 1, draw::low(value / 256));
 }
 
-// A record of five numbers, each two bytes, and zeros.
-pub fn put_record(file: &mut [u8], record: u32, a: u32, b: u32, q: u32, r: u32, w: u32) {
+// A record of six numbers, each two bytes, and zeros.
+pub fn put_record(file: &mut [u8], record: u32, a: u32, b: u32, q: u32, r: u32, w: u32, v: u32) {
     put_pair(file, record, 0, a);
     put_pair(file, record, 2, b);
     put_pair(file, record, 4, q);
     put_pair(file, record, 6, r);
     put_pair(file, record, 8, w);
-    put_pair(file, record, 10, 0);
+    put_pair(file, record, 10, v);
     put_pair(file, record, 12, 0);
     put_pair(file, record, 14, 0);
 }
 
-// Of small fields: a link to one of eight records, a domain number to 17, Q, R and W to 15; now and then another byte.
+// Of small fields: a link to one of eight records, a domain number to 17, Q, R and W to 7, a writeback reservation to 3; now
+// and then another byte.
 fn small_byte(drawn: u32, at: u32) -> u8 {
     let x = drawn / 256;
     match at % 16 {
         0 | 4 | 6 | 8 => draw::low(x % 8),
+        10 => draw::low(x % 4),
         2 => if at < 16 {
             draw::low(x % 8)
         } else {

@@ -1,4 +1,4 @@
-// Plan files given as text lines: a record more of five numbers, a byte, or the file's bytes. The first byte tells which.
+// Plan files given as text lines: a record more of six numbers, a byte, or the file's bytes. The first byte tells which.
 use super::bytes;
 use super::draw;
 use super::lines;
@@ -13,6 +13,7 @@ fn put_record(file: &mut [u8], size: usize, given: &[u8], at: usize) -> usize {
         lines::small(given, at, 17, 5),
         lines::small(given, at, 23, 5),
         lines::small(given, at, 29, 5),
+        lines::small(given, at, 35, 5),
     );
     std::num::wrapping_add_usize(size, 16)
 }

@@ -3,34 +3,35 @@ use super::draw;
 use super::values;
 use plan::Plan;
 
-// A value for a word: P, P + 1, 0, or any.
-fn wrong(seed: u32, salt: u32, period: u32) -> u32 {
+// A value for a word that may come up to a number: that number, one more, 0, or any.
+fn wrong(seed: u32, salt: u32, most: u32) -> u32 {
     match draw::upto(seed, salt, 3) {
-        0 => period,
-        1 => std::num::wrapping_add_u32(period, 1),
+        0 => most,
+        1 => std::num::wrapping_add_u32(most, 1),
         2 => 0,
         _ => draw::upto(seed, std::num::wrapping_add_u32(salt, 1), 65535),
     }
 }
 
-// One of Q, R and W of one domain put to such a value.
+// One of Q, R, W and V of one domain put to such a value, of which P is the most, and for V the domain's W.
 fn damaged(p: Plan, seed: u32, salt: u32) -> Plan {
-    let which = draw::upto(seed, salt, 47);
-    let value = wrong(
-        seed,
-        std::num::wrapping_add_u32(salt, 1),
-        values::wide(p.period),
-    );
-    values::with_word(p, which / 3 * 4 + which % 3 + 1, value)
+    let which = draw::upto(seed, salt, 63);
+    let k = which / 4 * 5 + which % 4 + 1;
+    let most = if which % 4 == 3 {
+        values::word(p, k - 1)
+    } else {
+        values::wide(p.period)
+    };
+    values::with_word(p, k, wrong(seed, std::num::wrapping_add_u32(salt, 1), most))
 }
 
 // A domain made absent, and one of its numbers put above zero.
 fn absent(p: Plan, seed: u32) -> Plan {
-    let k = draw::upto(seed, 20, 15) * 4;
+    let k = draw::upto(seed, 20, 15) * 5;
     let without = values::with_word(p, k, 0);
     values::with_word(
         without,
-        k + 1 + draw::upto(seed, 21, 2),
+        k + 1 + draw::upto(seed, 21, 3),
         1 + draw::upto(seed, 22, 65534),
     )
 }
@@ -72,7 +73,7 @@ fn no_period(seed: u32) -> u32 {
 
 // One of Q, R and W of a domain that is planned put just above P, or to the most that it holds.
 fn above(p: Plan, domain: u32, seed: u32) -> Plan {
-    let k = domain % 16 * 4;
+    let k = domain % 16 * 5;
     let value = if draw::upto(seed, 72, 1) == 0 {
         65535
     } else {
@@ -82,8 +83,19 @@ fn above(p: Plan, domain: u32, seed: u32) -> Plan {
     values::with_word(present, k + 1 + draw::upto(seed, 73, 2), value)
 }
 
-// A plan, accepted before, that is refused with 2 (way 0), with 9 for a planned domain (1) or for an absent one (2), or else
-// with 10.
+// V of a domain that is planned put just above its W, to P + 1, or to the most that it holds.
+fn above_cap(p: Plan, domain: u32, seed: u32) -> Plan {
+    let k = domain % 16 * 5;
+    let value = match draw::upto(seed, 75, 3) {
+        0 => 65535,
+        1 => values::wide(p.period) + 1,
+        _ => std::num::wrapping_add_u32(values::word(p, k + 3), 1),
+    };
+    values::with_word(values::with_word(p, k, 1), k + 4, value)
+}
+
+// A plan, accepted before, that is refused with 2 (way 0), with 9 for a planned domain (1) or for an absent one (2), with 11
+// (3), or else with 10, of Q alone or of one Q and one V.
 pub fn spoiled(p: Plan, way: u32, seed: u32) -> Plan {
     let n = draw::upto(seed, 74, 14);
     let period = values::wide(p.period);
@@ -91,15 +103,37 @@ pub fn spoiled(p: Plan, way: u32, seed: u32) -> Plan {
         0 => values::with_period(p, no_period(seed)),
         1 => above(p, n, seed),
         2 => absent(p, seed),
+        3 => above_cap(p, n, seed),
         _ => {
-            let whole = values::with_numbers(p, n, period, 0, period);
-            values::with_numbers(whole, n + 1, 1, period, 0)
+            let one = draw::upto(seed, 76, 1);
+            let whole = values::with_numbers(p, n, period, 0, period, 0);
+            values::with_numbers(whole, n + 1, one, period, 1, 1 - one)
         }
     }
 }
 
-// A plan that is damaged in one number (0), has a number in an absent domain (1), several faults (2), sums of Q around P
-// and 65,536 (3), or any period (4), or else is accepted.
+// A domain of each number in turn, planned with Q 0 and with V of 0, W, one more, P + 1 or the most that it holds; now and
+// then with another fault too.
+fn reserved_writebacks(p: Plan, case: u32, seed: u32) -> Plan {
+    let period = values::wide(p.period);
+    let w = draw::upto(seed, 77, period);
+    let v = match case % 5 {
+        0 => 0,
+        1 => w,
+        2 => w + 1,
+        3 => period + 1,
+        _ => 65535,
+    };
+    let with = values::with_numbers(p, case / 5, 0, 0, w, v);
+    if draw::upto(seed, 78, 3) == 0 {
+        damaged(with, seed, 79)
+    } else {
+        with
+    }
+}
+
+// A plan that is damaged in one number (0), has a number in an absent domain (1), several faults (2), sums of both
+// reservations around P and 65,536 (3), any period (4), or V around W (6), or else is accepted.
 pub fn made(way: u32, case: u32, seed: u32) -> Plan {
     let good = values::drawn(seed, values::GOOD);
     match way {
@@ -108,6 +142,7 @@ pub fn made(way: u32, case: u32, seed: u32) -> Plan {
         2 => several(good, seed),
         3 => values::summed(seed, case),
         4 => periods(good, case, seed),
+        6 => reserved_writebacks(good, case, seed),
         _ => good,
     }
 }

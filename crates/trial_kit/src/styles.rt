@@ -5,7 +5,7 @@ use super::values;
 use plan::Plan;
 
 // The styles: accepted and refused values, P 1, P 2 to 40, P 4,096, no domains, sixteen domains, all Q zero, sums
-// of Q equal to P, and P 1 to 8.
+// of both reservations equal to P, P 1 to 8, and P 2 to 20 with no writeback reservations, as older plans have.
 pub const ACCEPTED: u32 = 0;
 
 pub const REFUSED: u32 = 1;
@@ -26,6 +26,8 @@ pub const WHOLE: u32 = 8;
 
 pub const LEAST: u32 = 9;
 
+pub const OLDER: u32 = 10;
+
 // Plans with few large or with many small reservations.
 fn mixed(seed: u32, period: u32) -> Plan {
     if draw::upto(seed, 5, 2) == 0 {
@@ -41,31 +43,48 @@ fn unreserved(p: Plan) -> Plan {
     after
 }
 
-// P 1, where a reservation of 1 is the whole period.
+fn older(p: Plan) -> Plan {
+    let mut after = p;
+    after.writebackreservation = [0; 16];
+    after
+}
+
+// P 1, where a reservation of 1, of either kind, is the whole period.
 fn of_one_slot(seed: u32, case: u32) -> Plan {
-    if case % 3 == 0 {
-        return mixed(seed, 1);
+    let without = older(unreserved(values::drawn_in(seed, values::WHOLE, 1)));
+    let n = draw::upto(seed, 6, 15);
+    match case % 3 {
+        0 => mixed(seed, 1),
+        1 => values::with_word(without, n * 5 + 1, 1),
+        _ => values::with_numbers(without, n, 0, draw::upto(seed, 7, 1), 1, 1),
     }
-    let without = unreserved(values::drawn_in(seed, values::WHOLE, 1));
-    values::with_word(without, draw::upto(seed, 6, 15) * 4 + 1, 1)
+}
+
+// The plan with Q of domain 16, which has all that the others left, lowered to a number where it is above.
+fn lowered(p: Plan, most: u32) -> Plan {
+    if values::word(p, 76) > most {
+        values::with_word(p, 76, most)
+    } else {
+        p
+    }
 }
 
 // A plan of the style.
 pub fn plan_of(style: u32, case: u32, seed: u32) -> Plan {
     match style {
         0 => values::drawn(seed, values::GOOD),
-        1 => plans::made(case % 5, case / 5, seed),
+        1 => plans::made(case % 7, case / 7, seed),
         2 => of_one_slot(seed, case),
         3 => mixed(seed, 2 + draw::upto(seed, 4, 38)),
         4 => mixed(seed, 4096),
         5 => values::with_period(values::nothing(), 1 + draw::upto(seed, 4, 11)),
-        6 => values::with_word(
+        6 => lowered(
             values::drawn_in(seed, values::WHOLE, 16 + draw::upto(seed, 4, 40)),
-            61,
             draw::upto(seed, 6, 3),
         ),
         7 => unreserved(mixed(seed, 2 + draw::upto(seed, 4, 20))),
         8 => values::drawn_in(seed, values::WHOLE, 2 + draw::upto(seed, 4, 38)),
-        _ => mixed(seed, 1 + draw::upto(seed, 4, 7)),
+        9 => mixed(seed, 1 + draw::upto(seed, 4, 7)),
+        _ => older(mixed(seed, 2 + draw::upto(seed, 4, 18))),
     }
 }

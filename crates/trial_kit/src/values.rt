@@ -3,8 +3,8 @@ ghost use Prim.Native.Nat.{_<_};
 use super::draw;
 use plan::Plan;
 
-// How a plan is drawn: any that is accepted, sixteen domains whose Q sum to P, sixteen whose Q are all P, one with
-// large reservations that is accepted, or sixteen domains whose Q mostly come to more than P.
+// How a plan is drawn: any that is accepted, sixteen domains whose reservations of both kinds sum to P, sixteen of 4,096 each,
+// one with large reservations that is accepted, or sixteen domains whose reservations mostly come to more than P.
 pub const GOOD: u32 = 0;
 
 pub const WHOLE: u32 = 1;
@@ -29,26 +29,28 @@ fn one_if(b: bool) -> u32 {
     if b { 1 } else { 0 }
 }
 
-// Word k of a plan as the model has it: at 4 * (n - 1) present, Q, R and W of domain n.
+// Word k of a plan as the model has it: at 5 * (n - 1) present, Q, R, W and the writeback reservation V of domain n.
 pub fn word(p: Plan, k: u32) -> u32 {
-    let i = (k / 4 % 16) as usize;
-    match k % 4 {
+    let i = (k / 5 % 16) as usize;
+    match k % 5 {
         0 => one_if(p.planned[i]),
         1 => wide(p.reservation[i]),
         2 => wide(p.reclaimcap[i]),
-        _ => wide(p.writebackcap[i]),
+        3 => wide(p.writebackcap[i]),
+        _ => wide(p.writebackreservation[i]),
     }
 }
 
 // The plan with word k put to a value.
 pub fn with_word(p: Plan, k: u32, value: u32) -> Plan {
     let mut after = p;
-    let i = (k / 4 % 16) as usize;
-    match k % 4 {
+    let i = (k / 5 % 16) as usize;
+    match k % 5 {
         0 => after.planned[i] = value != 0,
         1 => after.reservation[i] = narrow(value),
         2 => after.reclaimcap[i] = narrow(value),
-        _ => after.writebackcap[i] = narrow(value),
+        3 => after.writebackcap[i] = narrow(value),
+        _ => after.writebackreservation[i] = narrow(value),
     }
     after
 }
@@ -59,14 +61,26 @@ pub fn with_period(p: Plan, period: u32) -> Plan {
     after
 }
 
-pub fn words(p: Plan) -> [u32; 64] {
-    let mut all = [0u32; 64];
+pub fn words(p: Plan) -> [u32; 80] {
+    let mut all = [0u32; 80];
     let mut k: u32 = 0;
-    while k < 64 {
+    while k < 80 {
         all[k as usize] = word(p, k);
         k += 1;
     }
     all
+}
+
+// The plan of this period and these words.
+pub fn plan_of(period: u32, words: [u32; 80]) -> Plan {
+    let mut p = with_period(nothing(), period);
+    let mut k: u32 = 0;
+    while k < 80 {
+        let next = with_word(p, k, words[k as usize]);
+        p = next;
+        k += 1;
+    }
+    p
 }
 
 // Whether all words of one list are those of another.
@@ -91,6 +105,7 @@ pub fn nothing() -> Plan {
         reservation: [0; 16],
         reclaimcap: [0; 16],
         writebackcap: [0; 16],
+        writebackreservation: [0; 16],
     }
 }
 
@@ -122,7 +137,8 @@ fn left_out(seed: u32, style: u32, n: u32) -> bool {
     }
 }
 
-// The most that is drawn for a Q: in the style OVER from a quarter of the period to all of it, whatever is left.
+// The most that is drawn for both reservations of a domain: in the style OVER from a quarter of the period to all of it,
+// whatever is left.
 fn most_of(seed: u32, style: u32, left: u32, period: u32) -> u32 {
     match style {
         3 => left,
@@ -131,8 +147,8 @@ fn most_of(seed: u32, style: u32, left: u32, period: u32) -> u32 {
     }
 }
 
-// Q of domain n + 1, where so much of the period is left.
-fn quota(seed: u32, style: u32, n: u32, left: u32, period: u32) -> u32 {
+// Both reservations of domain n + 1 together, where so much of the period is left.
+fn share(seed: u32, style: u32, n: u32, left: u32, period: u32) -> u32 {
     if style == FULL {
         return 4096;
     }
@@ -155,12 +171,41 @@ struct Draft {
 }
 
 // The plan with domain n + 1, of these numbers.
-pub fn with_numbers(p: Plan, n: u32, q: u32, r: u32, w: u32) -> Plan {
-    let k = n % 16 * 4;
+pub fn with_numbers(p: Plan, n: u32, q: u32, r: u32, w: u32, v: u32) -> Plan {
+    let k = n % 16 * 5;
     let present = with_word(p, k, 1);
     let reserved = with_word(present, k + 1, q);
     let capped = with_word(reserved, k + 2, r);
-    with_word(capped, k + 3, w)
+    let written = with_word(capped, k + 3, w);
+    with_word(written, k + 4, v)
+}
+
+// How much of a domain's reservations is for writebacks: at most the number given, often half of it, and nothing in every
+// fourth plan.
+fn part(seed: u32, n: u32, most: u32) -> u32 {
+    if draw::upto(seed, 8, 3) == 0 {
+        return 0;
+    }
+    if draw::upto(seed, std::num::wrapping_add_u32(n, 700), 2) == 0 {
+        return most / 2;
+    }
+    amount(seed, std::num::wrapping_add_u32(n, 800), most)
+}
+
+// The plan with domain n + 1, of these numbers, where so much is for writebacks of what it reserves in all; in every fourth
+// domain this is its W too.
+fn with_share(p: Plan, n: u32, seed: u32, all: u32, r: u32, w: u32) -> Plan {
+    let most = if w < all { w } else { all };
+    let v = part(seed, n, most);
+    let capped = draw::upto(seed, std::num::wrapping_add_u32(n, 900), 3) == 0;
+    with_numbers(
+        p,
+        n,
+        if v <= all { all - v } else { 0 },
+        r,
+        if capped { v } else { w },
+        v,
+    )
 }
 
 fn with_domain(d: Draft, seed: u32, style: u32, n: u32) -> Draft {
@@ -170,12 +215,12 @@ fn with_domain(d: Draft, seed: u32, style: u32, n: u32) -> Draft {
     let left = d.left;
     let p = d.plan;
     let period = wide(p.period);
-    let q = quota(seed, style, n, left, period);
+    let all = share(seed, style, n, left, period);
     let r = amount(seed, std::num::wrapping_add_u32(n, 300), period);
     let w = amount(seed, std::num::wrapping_add_u32(n, 400), period);
     Draft {
-        plan: with_numbers(p, n, q, r, w),
-        left: if q <= left { left - q } else { 0 },
+        plan: with_share(p, n, seed, all, r, w),
+        left: if all <= left { left - all } else { 0 },
     }
 }
 
@@ -199,12 +244,27 @@ pub fn drawn_in(seed: u32, style: u32, period: u32) -> Plan {
     d.plan
 }
 
-// Sixteen domains whose Q sum to P, to P + 1, or to 65,536.
+// Sixteen domains whose reservations sum to P, to P + 1, or to 65,536.
 pub fn summed(seed: u32, case: u32) -> Plan {
     match case % 3 {
         0 => drawn(seed, WHOLE),
-        1 => with_more(drawn(seed, WHOLE), draw::upto(seed, 4, 15) * 4 + 1),
+        1 => with_one_more(drawn(seed, WHOLE), draw::upto(seed, 4, 15) * 5, case / 3),
         _ => drawn(seed, FULL),
+    }
+}
+
+// The plan with one more reserved by the domain whose words begin at k: its Q, or its V, and then its W where both are equal.
+fn with_one_more(p: Plan, k: u32, way: u32) -> Plan
+    requires { ⌜ k < 80 ⌝ }
+{
+    if way % 2 == 0 {
+        return with_more(p, k + 1);
+    }
+    let written = with_more(p, k + 4);
+    if word(p, k + 3) == word(p, k + 4) {
+        with_more(written, k + 3)
+    } else {
+        written
     }
 }
 

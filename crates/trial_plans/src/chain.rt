@@ -34,17 +34,18 @@ pub fn link_offset(record: u32) -> u32 {
 
 // The record of a domain, with no link behind it.
 fn put_domain(file: &mut [u8], p: Plan, record: u32, domain: u32) {
-    let k = domain % 16 * 4;
+    let k = domain % 16 * 5;
     let q = values::word(p, k + 1);
     let r = values::word(p, k + 2);
     let w = values::word(p, k + 3);
-    bytes::put_record(file, record, 0, domain % 16 + 1, q, r, w);
+    let v = values::word(p, k + 4);
+    bytes::put_record(file, record, 0, domain % 16 + 1, q, r, w, v);
 }
 
 // Lays one domain at the chain's end, if it is planned and a record is left.
 fn with_domain(file: &mut [u8], p: Plan, order: [u32; 64], l: Laid, domain: u32) -> Laid {
     let used = l.used;
-    if values::word(p, domain % 16 * 4) == 0 {
+    if values::word(p, domain % 16 * 5) == 0 {
         return l;
     }
     if used < l.most {
@@ -67,7 +68,7 @@ pub fn lay(file: &mut [u8], p: Plan, records: u32, seed: u32) -> Chain {
     let order = draw::shuffled(seed, 500, most);
     let domains = draw::shuffled(seed, 600, 16);
     let period = values::wide(p.period);
-    bytes::put_record(file, 0, period, 0, 0, 0, 0);
+    bytes::put_record(file, 0, period, 0, 0, 0, 0, 0);
     let used = lay_domains(file, p, order, domains, most);
     Chain {
         records,

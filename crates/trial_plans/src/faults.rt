@@ -4,16 +4,19 @@ use super::chain::Chain;
 use trial_kit::bytes;
 use trial_kit::draw;
 
-// The faults by number: 8 of a link, then 5 of a domain number, 7 of a byte that has to be zero, 9 of Q, R and W.
+// The faults by number: 8 of a link, then 5 of a domain number, 5 of a byte that has to be zero, 9 of Q, R and W, and 5 of the
+// writeback reservation.
 pub const LINKS: u32 = 0;
 
 pub const NUMBERS: u32 = 8;
 
 pub const UNLISTED: u32 = 13;
 
-pub const AMOUNTS: u32 = 20;
+pub const AMOUNTS: u32 = 18;
 
-pub const ALL: u32 = 29;
+pub const WRITES: u32 = 27;
+
+pub const ALL: u32 = 32;
 
 // Where a link leads: mostly to no record or back on the chain, now and then where it may.
 fn bad_link(c: Chain, record: u32, fault: u32, seed: u32) -> u32 {
@@ -41,10 +44,10 @@ fn bad_number(fault: u32, other: u8, seed: u32) -> u8 {
     }
 }
 
-// Byte 3, or one of 10 to 15.
+// Byte 3, or one of 12 to 15.
 fn unlisted_offset(fault: u32) -> u32 {
     match fault {
-        14..=19 => fault - 4,
+        14..=17 => fault - 2,
         _ => 3,
     }
 }
@@ -75,6 +78,25 @@ fn damage_amount(file: &mut [u8], period: u32, record: u32, which: u32) {
     bytes::put_pair(file, record, 4 + k / 3 * 2, bad_amount(period, k % 3));
 }
 
+// W of the record.
+fn cap_of(file: &[u8], record: u32) -> u32 {
+    let at = bytes::place(record, 8);
+    bytes::get(file, at) as u32 + bytes::get(file, at + 1) as u32 * 256
+}
+
+// The writeback reservation put to one above W, the largest, P + 1, W, or 0.
+fn damage_reservation(file: &mut [u8], period: u32, record: u32, which: u32) {
+    let cap = cap_of(file, record);
+    let value = match which {
+        0 => std::num::wrapping_add_u32(cap, 1),
+        1 => 65535,
+        2 => bad_amount(period, 1),
+        3 => cap,
+        _ => 0,
+    };
+    bytes::put_pair(file, record, 10, value);
+}
+
 // Puts a fault into a record; in record 0 a fault of a link alone.
 pub fn damage(file: &mut [u8], c: Chain, record: u32, fault: u32, seed: u32) {
     if fault < NUMBERS {
@@ -90,7 +112,11 @@ pub fn damage(file: &mut [u8], c: Chain, record: u32, fault: u32, seed: u32) {
         damage_unlisted(file, record, fault, seed);
         return;
     }
-    damage_amount(file, c.period, record, fault - AMOUNTS);
+    if fault < WRITES {
+        damage_amount(file, c.period, record, fault - AMOUNTS);
+        return;
+    }
+    damage_reservation(file, c.period, record, fault - WRITES);
 }
 
 // A record of the chain; record 1 or another off it where the chain is empty.

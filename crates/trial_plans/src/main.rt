@@ -15,9 +15,10 @@ mod plans;
 mod report;
 mod seen;
 mod stated;
+mod writes;
 
-// Kind 0 are the stated cases; the kinds 16 to 22 are of plan values, all others of files.
-const KINDS: u32 = 26;
+// Kind 0 are the stated cases; the kinds 16 to 22 and 27 are of plan values, all others of files.
+const KINDS: u32 = 28;
 
 // How many cases each kind has.
 fn cases(kind: u32) -> u32 {
@@ -30,8 +31,9 @@ fn cases(kind: u32) -> u32 {
         10..=15 => 2500,
         18 | 20 => 1200,
         16..=19 => 1800,
-        23 | 24 => 3264,
+        23 | 24 => 3808,
         25 => 1700,
+        26 | 27 => 2000,
         _ => 1400,
     }
 }
@@ -49,15 +51,16 @@ fn try_file(kind: u32, case: u32, seed: u32) -> Outcome {
     tried(kind, case, &file[0..size], seed)
 }
 
-fn try_value(kind: u32, case: u32, seed: u32) -> Outcome {
+fn try_value(kind: u32, case: u32, seed: u32, seen: &mut [u32]) -> Outcome {
     let p = plans::made(kind, case, seed);
+    writes::count(p, seen);
     seen::of_value(compare::value(p, plans::lent(p, kind, case), seed))
 }
 
-fn try_case(kind: u32, case: u32) -> Outcome {
+fn try_case(kind: u32, case: u32, seen: &mut [u32]) -> Outcome {
     let seed = draw::draw(kind, case);
     match kind {
-        16..=22 => try_value(kind, case, seed),
+        16..=22 | 27 => try_value(kind, case, seed, seen),
         _ => try_file(kind, case, seed),
     }
 }
@@ -67,7 +70,8 @@ fn try_kind(before: Tally, kind: u32, seen: &mut [u32]) -> Tally {
     let most = cases(kind);
     let mut case: u32 = 0;
     while case < most {
-        let next = seen::counted(t, kind, case, try_case(kind, case), seen);
+        let outcome = try_case(kind, case, seen);
+        let next = seen::counted(t, kind, case, outcome, seen);
         t = next;
         case += 1;
     }
@@ -88,7 +92,7 @@ fn try_kinds(before: Tally, seen: &mut [u32]) -> Tally {
 
 // The stated cases and those of all kinds, given the text that states them.
 fn try_all(given: &[u8]) {
-    let mut seen = [0u32; 160];
+    let mut seen = [0u32; 176];
     let before = stated::cases(tally::start(), given, &mut seen);
     let t = try_kinds(before, &mut seen);
     seen::lines(&seen);

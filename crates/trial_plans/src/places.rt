@@ -8,7 +8,7 @@ use trial_kit::draw;
 use trial_kit::tally::both;
 use trial_kit::values;
 
-// The refusal of 4 to 9 that is put in, or 0 for none, and how many records are taken.
+// The refusal of 4 to 9 or 11 that is put in, or 0 for none, and how many records are taken.
 struct Spot {
     fault: u32,
     taken: u32,
@@ -31,14 +31,18 @@ fn spot_of(kind: u32, case: u32) -> Spot {
             taken: case % 17,
         };
     }
-    let fault = 4 + case % 6;
+    let fault = match case % 7 {
+        6 => 11,
+        k => 4 + k,
+    };
     Spot {
         fault,
-        taken: place(fault, case / 6),
+        taken: place(fault, case / 7),
     }
 }
 
-// The plan's style: sixteen domains whose Q come to P in kind 23, mostly to more in 24, and in 25 to either or to 65,536.
+// The plan's style: sixteen domains whose reservations come to P in kind 23, mostly to more in 24, and in 25 to either or to
+// 65,536.
 fn style_of(kind: u32, case: u32) -> u32 {
     match kind {
         23 => values::WHOLE,
@@ -68,7 +72,8 @@ fn damage_of(fault: u32, seed: u32) -> u32 {
         5 => faults::LINKS + 3,
         6 => faults::NUMBERS + draw::upto(seed, 710, 2),
         7 => faults::NUMBERS + 3,
-        8 => faults::UNLISTED + draw::upto(seed, 710, 6),
+        8 => faults::UNLISTED + draw::upto(seed, 710, 4),
+        11 => faults::WRITES + draw::upto(seed, 710, 1),
         _ => faults::AMOUNTS + 1 + draw::upto(seed, 710, 2) * 3 + draw::upto(seed, 711, 1),
     }
 }
@@ -98,8 +103,9 @@ pub fn put(file: &mut [u8], kind: u32, case: u32, seed: u32) -> u32 {
 // Whether the model takes as many records as are to be taken, and tells the fault that was put in; of other kinds nothing
 // is known.
 pub fn holds(file: &[u8], kind: u32, case: u32) -> bool {
-    if kind < 23 {
-        return true;
+    match kind {
+        23..=25 => (),
+        _ => return true,
     }
     let s = spot_of(kind, case);
     let m = model_plans::sums(file);

@@ -4,9 +4,14 @@ use plan::Plan;
 use trial_kit::plans;
 use trial_kit::values;
 
-// The plan of a case of the kinds 16 to 22; those of 16 and 22 are accepted.
+// The plan of a case of the kinds 16 to 22 and 27; those of 16 and 22 are accepted.
 pub fn made(kind: u32, case: u32, seed: u32) -> Plan {
-    plans::made(std::num::wrapping_sub_u32(kind, 17), case, seed)
+    let way = if kind == 27 {
+        6
+    } else {
+        std::num::wrapping_sub_u32(kind, 17)
+    };
+    plans::made(way, case, seed)
 }
 
 // The bytes that a plan needs, or 0 where it is refused.

@@ -13,9 +13,9 @@ fn say_name(kind: u32) {
         chains in any order\n\
         links\n\
         domain numbers\n\
-        byte 3 and bytes 10 to 15\n\
+        byte 3 and bytes 12 to 15\n\
         Q, R and W around P\n\
-        sums of Q around P, and 65,536\n\
+        sums of both reservations around P, and 65,536\n\
         two faults in one record\n\
         two faults in any records\n\
         one byte of a good file\n\
@@ -26,12 +26,14 @@ fn say_name(kind: u32) {
         plan values with one number damaged\n\
         plan values with a number in an absent domain\n\
         plan values with several faults\n\
-        plan values with sums around P, and 65,536\n\
+        plan values with sums of both reservations around P, and 65,536\n\
         plan values of any period\n\
         plan values in buffers of each length\n\
-        a fault of 4 to 9 at each place of a chain\n\
-        sums that mostly pass P, and a fault of 4 to 9\n\
-        chains of each length, and no fault\n",
+        a fault of 4 to 9 or 11 at each place of a chain\n\
+        sums that mostly pass P, and a fault of 4 to 9 or 11\n\
+        chains of each length, and no fault\n\
+        writeback reservations around W\n\
+        plan values with writeback reservations around W\n",
         kind as usize,
     );
 }
@@ -43,7 +45,7 @@ pub fn kind_line(t: Tally, kind: u32) {
 
 // The refusals, the total, and where something differed its first kind and case.
 pub fn last_lines(t: Tally) {
-    report::told_lines(t, &[1, 2, 3, 4, 5, 6, 7, 8, 9, 10, 51]);
+    report::told_lines(t, &[1, 2, 3, 4, 5, 6, 7, 8, 9, 10, 11, 51]);
     if t.alldiffer != 0 {
         say(b"first difference: ");
         say_name(t.firstkind);

@@ -1,6 +1,6 @@
 // What the walks came to: where on the chain they ended and which sums they told, so that a program that does nothing is
 // noticed.
-ghost use Prim.Native.Nat.{_<_};
+ghost use Prim.Native.Nat.{_<_, _≤_};
 use trial_kit::bytes;
 use trial_kit::lines::say_nth;
 use trial_kit::report;
@@ -8,26 +8,27 @@ use trial_kit::tally;
 use trial_kit::tally::Tally;
 use trial_kit::tally::Verdict;
 
-// The counts are lent. Eight rows of 17 say after how many records, 0 to 16, the walks ended: with 4 to 9, one row each, at
-// the chain's end, and before it began. Behind the rows stand single counts, in the order of their names below.
-const END: u32 = 6;
+// The counts are lent. Nine rows of 17 say after how many records, 0 to 16, the walks ended: with 4 to 9 and 11, one row each,
+// at the chain's end, and before it began. Behind the rows stand other counts, in the order of their names below.
+const END: u32 = 7;
 
-const ROWS: usize = 8;
+const SUMS: usize = 153;
 
-const SUMS: usize = 136;
+const ABOVE: usize = 154;
 
-const ABOVE: usize = 137;
+const WHOLE: usize = 155;
 
-const WHOLE: usize = 138;
+const MORE: usize = 156;
 
-const MORE: usize = 139;
+const MOST: usize = 157;
 
-const MOST: usize = 140;
+const OTHER: usize = 158;
 
-const OTHER: usize = 141;
+// Those of plan values, which `writes` counts.
+pub const WRITES: usize = 159;
 
 // No count.
-const NONE: usize = 160;
+const NONE: usize = 176;
 
 // A case compared: how many records were taken, the count of where the walk ended, and that of its sums.
 pub struct Outcome {
@@ -39,12 +40,13 @@ pub struct Outcome {
 
 // The row of a refusal.
 fn row_of(number: u32) -> u32
-    ensures { λ r. ⌜ r < 8 ⌝ }
+    ensures { λ r. ⌜ r < 9 ⌝ }
 {
     match number {
         0 | 10 => END,
         4..=9 => number - 4,
-        _ => 7,
+        11 => 6,
+        _ => 8,
     }
 }
 
@@ -99,7 +101,7 @@ fn count(seen: &[u32], k: usize) -> u32 {
     if k < seen.len() { seen[k] } else { 0 }
 }
 
-fn raise(seen: &mut [u32], k: usize, by: u32) {
+pub fn raise(seen: &mut [u32], k: usize, by: u32) {
     if k < seen.len() {
         let x = seen[k];
         if x < 1000000000 {
@@ -126,21 +128,26 @@ fn say_name(k: usize) {
         refused with 7 after 0 to 16 records\n\
         refused with 8 after 0 to 16 records\n\
         refused with 9 after 0 to 16 records\n\
+        refused with 11 after 0 to 16 records\n\
         at the chain's end after 0 to 16 records\n\
         refused with 1 to 3 after 0 to 16 records\n\
         sums compared\n\
-        refused with 4 to 9 after a sum above P\n\
+        refused with 4 to 9 or 11 after a sum above P\n\
         last sums of P\n\
         last sums of P + 1\n\
         last sums of 65,536\n\
-        last sums of another number, or none\n",
+        last sums of another number, or none\n\
+        writeback reservations of plan values: none, below W, W, W + 1, more, above P\n\
+        plan values refused with 9 though a domain of a lower number draws 11\n\
+        plan values refused with 11 for a writeback reservation of at most P\n\
+        plan values refused with 10 whose Q alone come to at most P\n",
         k,
     );
 }
 
 // A name, and so many counts from one on.
 fn say_counts(seen: &[u32], name: usize, from: usize, counts: usize)
-    requires { ⌜ (from < 160) × (counts < 160) ⌝ }
+    requires { ⌜ (from < 176) × (counts < 176) ⌝ }
 {
     say_name(name);
     report::say(b":");
@@ -152,14 +159,24 @@ fn say_counts(seen: &[u32], name: usize, from: usize, counts: usize)
     report::say(b"\n");
 }
 
+// How many counts stand under a name.
+fn width(name: usize) -> usize
+    ensures { λ r. ⌜ r ≤ 17 ⌝ }
+{
+    match name {
+        0..=8 => 17,
+        15 => 6,
+        _ => 1,
+    }
+}
+
 pub fn lines(seen: &[u32]) {
-    let mut k: usize = 0;
-    while k < 14 {
-        if k < ROWS {
-            say_counts(seen, k, 17 * k, 17);
-        } else {
-            say_counts(seen, k, SUMS + (k - ROWS), 1);
-        }
-        k += 1;
+    let mut from: usize = 0;
+    let mut name: usize = 0;
+    while name < 19 {
+        let counts = width(name);
+        say_counts(seen, name, from % 176, counts);
+        from = std::num::wrapping_add_usize(from, counts);
+        name += 1;
     }
 }

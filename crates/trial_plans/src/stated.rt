@@ -1,14 +1,17 @@
 // Cases whose outcomes are stated, read as text lines. The first byte tells what a line is:
 //   case NAME                             a case begins, with an empty plan file and nothing due
-//   file NNNNN NNNNN NNNNN NNNNN NNNNN    a record more of the plan file: its first five numbers of two bytes
+//   file NNNNN NNNNN NNNNN NNNNN NNNNN NNNNN
+//                                         a record more of the plan file: its first six numbers of two bytes
 //   at OOOO NNN                           a byte of the plan file
 //   size NNNN                             the bytes of the plan file
 //   plan PPPPP                            the period of the plan that is due
-//   domain NN QQQQQ RRRRR WWWWW           a domain of it
+//   domain NN QQQQQ RRRRR WWWWW VVVVV     a domain of it; V is the writeback reservation
+//   beside NN QQQQQ RRRRR WWWWW VVVVV     numbers of a domain that it has not planned
 //   read NN KKKKK                         reading tells this refusal and place, and the plan due (zeros where none is)
 //   told NNNNNNN                          a sum more that is due
 //   walk                                  the sums told are those due, and no other
-// What is due begins anew after `read` and `walk`.
+//   value NN KKKKK                        the plan due is held as a value: checking and writing it tell this refusal and place
+// What is due begins anew after `read`, `walk` and `value`.
 use super::compare;
 use super::seen;
 use super::seen::Outcome;
@@ -21,6 +24,9 @@ use trial_kit::lines;
 use trial_kit::report;
 use trial_kit::tally;
 use trial_kit::tally::Tally;
+use trial_kit::tally::Verdict;
+use trial_kit::tally::both;
+use trial_kit::values;
 
 // The kind of all stated cases.
 const STATED: u32 = 0;
@@ -32,7 +38,7 @@ struct Stand {
     named: usize,
     size: usize,
     period: u32,
-    domains: [u32; 64],
+    domains: [u32; 80],
     sums: Sums,
 }
 
@@ -43,7 +49,7 @@ fn begun(case: u32, named: usize, size: usize, period: u32) -> Stand {
         named,
         size,
         period,
-        domains: [0; 64],
+        domains: [0; 80],
         sums: Sums {
             records: 0,
             told: [0; 16],
@@ -51,16 +57,21 @@ fn begun(case: u32, named: usize, size: usize, period: u32) -> Stand {
     }
 }
 
-fn with_domain(p: Stand, given: &[u8], at: usize) -> Stand {
+// A domain more, planned or not.
+fn with_domain(p: Stand, given: &[u8], at: usize, planned: u32) -> Stand {
     let mut after = p;
     let domains = p.domains;
-    let next = words::with_domain(
+    let n = lines::small(given, at, 7, 2);
+    let mut next = words::with_domain(
         domains,
-        lines::small(given, at, 7, 2),
+        n,
         lines::small(given, at, 10, 5),
         lines::small(given, at, 16, 5),
         lines::small(given, at, 22, 5),
+        lines::small(given, at, 28, 5),
     );
+    let flag = ((n + 15) % 16 * 5) as usize;
+    next[flag] = planned;
     after.domains = next;
     after
 }
@@ -91,9 +102,10 @@ fn stand_after(p: Stand, given: &[u8], at: usize, file: &mut [u8]) -> Stand {
             0,
             0,
         ),
-        b'r' | b'w' => begun(p.case, p.named, p.size, 0),
+        b'r' | b'w' | b'v' => begun(p.case, p.named, p.size, 0),
         b'p' => begun(p.case, p.named, p.size, lines::small(given, at, 5, 5)),
-        b'd' => with_domain(p, given, at),
+        b'd' => with_domain(p, given, at, 1),
+        b'b' => with_domain(p, given, at, 0),
         b't' => with_sum(p, (lines::number(given, at, 5, 7) % 4294967296) as u32),
         b'f' | b'a' | b's' => with_size(p, put_in_file(file, p.size, given, at)),
         _ => p,
@@ -126,7 +138,25 @@ fn holds(p: Stand, given: &[u8], at: usize, file: &[u8]) -> bool {
     }
 }
 
+// The plan due, held as a value.
+fn value_compared(p: Stand, given: &[u8], at: usize) -> Outcome {
+    let domains = p.domains;
+    let told = model_plans::check(p.period, domains);
+    let v = compare::value(values::plan_of(p.period, domains), compare::BUFFER, p.case);
+    let as_due = both(
+        told.number == lines::small(given, at, 6, 2),
+        told.place == lines::small(given, at, 9, 5),
+    );
+    seen::of_value(Verdict {
+        number: v.number,
+        same: both(v.same, as_due),
+    })
+}
+
 fn compared(p: Stand, given: &[u8], at: usize, file: &[u8]) -> Outcome {
+    if lines::byte(given, at) == b'v' {
+        return value_compared(p, given, at);
+    }
     let v = compare::file(file, p.case, holds(p, given, at, file));
     seen::of_file(file, v)
 }
@@ -152,7 +182,7 @@ fn tally_after(
     let size = bytes::least(p.size, file.len());
     match lines::byte(given, at) {
         b'c' => closed(t, p, given),
-        b'r' | b'w' => seen::counted(
+        b'r' | b'w' | b'v' => seen::counted(
             t,
             STATED,
             p.case,

@@ -37,7 +37,10 @@ pub fn kind_line(given: &[u8], t: Tally, kind: u32, periods: u32) {
 
 // The refusals, the total, and where something differed its first kind and case.
 pub fn last_lines(given: &[u8], t: Tally) {
-    report::told_lines(t, &[1, 2, 3, 4, 5, 6, 7, 8, 9, 10, 21, 22, 23, 32, 33, 41]);
+    report::told_lines(
+        t,
+        &[1, 2, 3, 4, 5, 6, 7, 8, 9, 10, 11, 21, 22, 23, 32, 33, 41],
+    );
     if t.alldiffer != 0 {
         say(b"first difference: ");
         lines::say_line(given, name_of(given, t.firstkind));

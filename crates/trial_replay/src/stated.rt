@@ -1,6 +1,7 @@
 // Replays whose text is stated, read as text lines. The first byte tells what a line is:
 //   case NAME                             a case begins, with an empty plan file and an empty script
-//   file NNNNN NNNNN NNNNN NNNNN NNNNN    a record more of the plan file: its first five numbers of two bytes
+//   file NNNNN NNNNN NNNNN NNNNN NNNNN NNNNN
+//                                         a record more of the plan file: its first six numbers of two bytes
 //   at OOOO NNN                           a byte of the plan file
 //   size NNNN                             the bytes of the plan file
 //   > TEXT                                a line of the script

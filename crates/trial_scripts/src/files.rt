@@ -24,6 +24,7 @@ fn put_first(file: &mut [u8], c: Case) {
             0,
             0,
             0,
+            0,
         );
     }
 }

@@ -33,7 +33,7 @@ pub fn put_part(to: &mut [u8], at: usize, given: &[u8], from: usize, end: usize)
 pub fn word(s: &[u64], row: u32, column: u32) -> u32
     ensures { λ r. ⌜ r < 65536 ⌝ }
 {
-    let at = (row % 17 * 9 + column % 9) as usize;
+    let at = (row % 17 * 11 + column % 11) as usize;
     if at < s.len() {
         (s[at] % 65536) as u32
     } else {
@@ -130,7 +130,7 @@ pub fn drawn_offers(s: &[u64], w: Weights, seed: u32) -> [u8; 17] {
 // A yield of some of a drawn domain's claim; k is 0 where there is none.
 pub fn drawn_yield(s: &[u64], seed: u32) -> Amount {
     let domain = 1 + draw::upto(seed, 10, 15);
-    let claim = word(s, domain, 4);
+    let claim = word(s, domain, 5);
     let k = if claim > 0 {
         1 + draw::upto(seed, 11, claim - 1)
     } else {
@@ -148,7 +148,7 @@ pub fn drawn_yield(s: &[u64], seed: u32) -> Amount {
 pub fn put_drawn_slot(script: &mut [u8], at: usize, s: &mut [u64], w: Weights, seed: u32) -> usize {
     let offers = drawn_offers(s, w, seed);
     let mut verdicts = [0u8; 17];
-    let mut counts = [0u64; 153];
+    let mut counts = [0u64; 187];
     model_calls::slot(s, &offers, &mut verdicts, &mut counts);
     put_slot(script, at, &offers, 17)
 }

@@ -55,7 +55,7 @@ fn put_offers(script: &mut [u8], at: usize, s: &[u64], c: Case) -> usize {
 
 fn put_amounts(script: &mut [u8], at: usize, s: &[u64], c: Case) -> usize {
     let y = lines::drawn_yield(s, c.seed);
-    let claim = lines::word(s, y.domain, 4);
+    let claim = lines::word(s, y.domain, 5);
     lines::put_yield(script, at, wrong::spoiled_yield(y, claim, c.case, c.seed))
 }
 
@@ -198,7 +198,7 @@ fn put_behind(script: &mut [u8], at: usize, s: &mut [u64], c: Case) -> usize {
 
 // Puts the script and answers its bytes.
 pub fn put(script: &mut [u8], c: Case) -> usize {
-    let mut s = [0u64; 306];
+    let mut s = [0u64; 374];
     cases::open(&mut s, c);
     let w = cases::weights(c);
     let at = lines::put_lines(script, 0, &mut s, w, c.shared, cases::first_lines(c));

@@ -1,4 +1,5 @@
 // States changed in one number, in several, or in all: most no longer add up, and each line of that rule is broken alone.
+use super::draws;
 use super::forms;
 use super::handing;
 use super::sums;
@@ -6,8 +7,8 @@ use trial_kit::bytes;
 use trial_kit::draw;
 use trial_kit::values;
 
-// The word of a column of the table below, for a domain: P, T, idle, best effort, stock; Q, R, W, claim, reserved,
-// reclaimed, yielded, writebacks; the sum of steps.
+// The word of a column of the table below, for a domain: P, T, idle, best effort, stock; Q, R, W, V, claim, reserved,
+// reclaimed, yielded, writebacks, writeback claim; the sum of steps.
 fn word_of(column: usize, domain: usize) -> usize {
     match column {
         0 => 0,
@@ -15,8 +16,8 @@ fn word_of(column: usize, domain: usize) -> usize {
         2 => 3,
         3 => 4,
         4 => 5,
-        13 => 7,
-        _ => 9 * (1 + domain % 16) + (column - 4) % 9,
+        15 => 7,
+        _ => 11 * (1 + domain % 16) + (column - 4) % 11,
     }
 }
 
@@ -35,62 +36,127 @@ fn shift(words: &mut [u64], k: usize, by: u64, sign: u8) {
 // Moves a state by the row of signs that begins at a place.
 fn shift_by(words: &mut [u64], domain: usize, by: u64, rows: &[u8], from: usize) {
     let mut column: usize = 0;
-    while column < 14 {
+    while column < 16 {
         let sign = bytes::get(rows, std::num::wrapping_add_usize(from, column));
         shift(words, word_of(column, domain), by, sign);
         column += 1;
     }
 }
 
+// The ways of writebacks and their claims are numbered from here on, and there are so many of them.
+const WRITES: u32 = 27;
+
+const WRITE_WAYS: u32 = 23;
+
 // Moves that keep some of the sums: slots, passes and yields as they go, their undoing, and parts of them; in the last three
 // idle slots come and go without their steps. A row of signs for each way.
-fn shift_in(words: &mut [u64], way: u32, domain: usize, by: u64) {
+fn shift_slots(words: &mut [u64], way: u32, domain: usize, by: u64) {
     shift_by(
         words,
         domain,
         by,
-        b"0++0000000000>\
-        00+-000000000>\
-        0000+000-00+00\
-        0+000000-+000+\
-        0+00-00000+000\
-        00000000-+0000\
-        00000000-00+00\
-        00-0-00000+00<\
-        000000000-+000\
-        0000+000000+00\
-        00000+00+00000\
-        0+000+000+0000\
-        0000000+0000+0\
-        000000-0000000\
-        0000000-000000\
-        +0000000000000\
-        -0000000000000\
-        0--0000000000<\
-        0+000000-0++00\
-        00+00000+-000>\
-        00+0+00000-00>\
-        000000000000+0\
-        0000-00000+000\
-        00-0000000+00<\
-        0++00000000000\
-        0--00000000000\
-        00+-0000000000",
-        14 * (way % 27) as usize,
+        b"0++000000000000>\
+        00+-00000000000>\
+        0000+0000-00+000\
+        0+0000000-+0000+\
+        0+00-000000+0000\
+        000000000-+00000\
+        000000000-00+000\
+        00-0-000000+000<\
+        0000000000-+0000\
+        0000+0000000+000\
+        00000+000+000000\
+        0+000+0000+00000\
+        0+00000+00000+00\
+        000000-000000000\
+        0000000-00000000\
+        +000000000000000\
+        -000000000000000\
+        0--000000000000<\
+        0+0000000-0++000\
+        00+000000+-0000>\
+        00+0+000000-000>\
+        0000000000000+00\
+        0000-000000+0000\
+        00-00000000+000<\
+        0++0000000000000\
+        0--0000000000000\
+        00+-000000000000",
+        16 * (way % 27) as usize,
     );
 }
 
-fn several(words: &mut [u64], seed: u32) {
-    let way = draw::upto(seed, 80, 26);
-    shift_in(words, way, draw::upto(seed, 81, 15) as usize, 1);
+// The same of writebacks, on their claim or without, and of what is reserved for them; other passes turned into writebacks,
+// and claims of one kind into the other.
+fn shift_writes(words: &mut [u64], way: u32, domain: usize, by: u64) {
+    shift_by(
+        words,
+        domain,
+        by,
+        b"0+00000000000+-0\
+        0+00000000000+00\
+        0-00000000000-+0\
+        0-00000000000-00\
+        00000000+00000+0\
+        00000000-00000-0\
+        0000000++00000+0\
+        00000000000000+0\
+        00000000000000-0\
+        000000000-0000+0\
+        000000000+0000-0\
+        000-000000000+-0\
+        000-000000000+00\
+        000000000+-00+-0\
+        0000000000-00+00\
+        00000-00+-0000+0\
+        00000+00-+0000-0\
+        00-0000000000+0<\
+        00-0000000000+-<\
+        00000000+0000000\
+        00000000-0000000\
+        0000000000000+-0\
+        0+0000000-+00+-0",
+        16 * (way % 23) as usize,
+    );
 }
 
-// A fresh state whose plan has sixteen Q of 4,096: they come to 65,536.
+fn shift_in(words: &mut [u64], way: u32, domain: usize, by: u64) {
+    if way < WRITES {
+        shift_slots(words, way, domain, by);
+    } else {
+        shift_writes(words, way - WRITES, domain, by);
+    }
+}
+
+// A domain that is planned, or in every fourth case any, as one less than its number.
+fn some_domain(words: &[u64], seed: u32, salt: u32) -> usize {
+    let any = draw::upto(seed, salt, 15);
+    if draw::upto(seed, 87, 3) == 0 {
+        any as usize
+    } else {
+        draws::domain_from(words, any, true) + 15
+    }
+}
+
+// In every third case a way is undone at another domain, so that what all domains come to stays.
+fn several(words: &mut [u64], way: u32, seed: u32) {
+    let one = some_domain(words, seed, 81);
+    shift_in(words, way, one, 1);
+    if draw::upto(seed, 82, 2) == 0 {
+        let other = some_domain(words, seed, 83);
+        shift_in(words, way, other, 18446744073709551615);
+    }
+}
+
+// A fresh state whose plan has sixteen domains that reserve 4,096 each: they come to 65,536.
 fn put_full_plan(words: &mut [u64]) {
     let mut s = forms::state_of(words);
     let p = values::drawn(1, values::FULL);
+    let reservation = p.reservation;
+    let writebackreservation = p.writebackreservation;
     s.plan = p;
-    s.claim = [4096; 16];
+    s.claim = reservation;
+    s.writebackclaim = writebackreservation;
     s.reserved = [0; 16];
     s.reclaimed = [0; 16];
     s.yielded = [0; 16];
@@ -103,12 +169,13 @@ fn put_full_plan(words: &mut [u64]) {
     forms::put_state(words, s);
 }
 
-// By how much numbers are moved: by one more than the claim, the stock or the decided slots lowered, or by any.
+// By how much numbers are moved: by one more than the claim, the stock, the decided or the idle slots lowered, or by any.
 fn round_by(words: &[u64], which: u32, domain: usize, seed: u32) -> u64 {
     match which {
-        2 => 1 + forms::word(words, 9 * (domain % 16 + 1) + 4) % 65536,
+        2 => 1 + forms::word(words, 11 * (domain % 16 + 1) + 5) % 65536,
         3 => 1 + forms::word(words, 5) % 65536,
         5 => 1 + forms::word(words, 1) % 65536,
+        7 => 1 + forms::word(words, 3) % 65536,
         _ => 1 + draw::upto(seed, 82, 65534) as u64,
     }
 }
@@ -119,6 +186,7 @@ fn round_way(which: u32) -> u32 {
         1 | 2 => 2,
         3 => 7,
         4 => 0,
+        7 => 44,
         _ => 17,
     }
 }
@@ -144,7 +212,7 @@ fn steps_off(words: &mut [u64], seed: u32) {
 
 // Sums that are right only if they go round at 65,536; the sum of steps fits the idle slots.
 fn round(words: &mut [u64], seed: u32) {
-    let which = draw::upto(seed, 80, 6);
+    let which = draw::upto(seed, 80, 7);
     let domain = draw::upto(seed, 81, 15) as usize;
     if which == 6 {
         put_full_plan(words);
@@ -186,24 +254,24 @@ fn word_off(k: usize, x: u64, drawn: u32) -> u64 {
         forms::WAITS => return 1 - x % 2,
         _ => (),
     }
-    if k % 9 == 0 {
+    if k % 11 == 0 {
         1 - x % 2
     } else {
         number_off(x, drawn)
     }
 }
 
-// Any word of a state: one of the first seventeen rows, of which 8 is none, the flag, or one of the plan beside it.
+// Any word of a state: one of the first seventeen rows, of which 8 to 10 are none, the flag, or one of the plan beside it.
 fn any_word(x: u32) -> usize {
-    let k = (x % 219) as usize;
-    if k == 8 {
-        return 7;
-    }
+    let k = (x % 269) as usize;
     if k <= forms::WAITS {
-        return k;
+        return match k {
+            8..=10 => 7,
+            _ => k,
+        };
     }
     let i = k - forms::WAITS - 1;
-    forms::NEXT + 9 * (i / 4 + 1) + i % 4
+    forms::NEXT + 11 * (i / 5 + 1) + i % 5
 }
 
 // One number put off.
@@ -221,7 +289,7 @@ fn any_state(words: &mut [u64], seed: u32) {
         _ => 1,
     };
     let mut k: u32 = 0;
-    while k < 219 {
+    while k < 269 {
         let x = draw::upto(seed, 100 + k, most);
         forms::put(words, any_word(k), x as u64);
         k += 1;
@@ -246,24 +314,25 @@ fn beside(words: &mut [u64], waits: bool, seed: u32) {
     }
 }
 
-// Changes the words of a state, for the kinds 15 to 20, 24 and 25; they may come to more than a state holds.
+// Changes the words of a state, for the kinds 15 to 20 and 24 to 26; they may come to more than a state holds.
 fn change(words: &mut [u64], kind: u32, seed: u32) {
     match kind {
         15 => one_off(words, seed),
-        16 => several(words, seed),
+        16 => several(words, draw::upto(seed, 80, WRITES + WRITE_WAYS - 1), seed),
         17 => round(words, seed),
         18 => any_state(words, seed),
         19 => long_run(words, seed),
         20 => steps_off(words, seed),
         24 => beside(words, true, seed),
-        _ => beside(words, false, seed),
+        25 => beside(words, false, seed),
+        _ => several(words, WRITES + draw::upto(seed, 80, WRITE_WAYS - 1), seed),
     }
 }
 
 // Whether a changed state is tried at each step of a kind.
 pub fn has_kind(kind: u32) -> bool {
     match kind {
-        15..=20 | 24 | 25 => true,
+        15..=20 | 24..=26 => true,
         _ => false,
     }
 }

@@ -5,11 +5,10 @@ use super::calls::Call;
 use super::forms;
 use super::styles::Style;
 use trial_kit::draw;
-use trial_kit::tally::both;
 
 // Whether the domain whose number is one above is planned.
 fn is_planned(words: &[u64], i: usize) -> bool {
-    forms::word(words, 9 * (i % 16 + 1)) != 0
+    forms::word(words, 11 * (i % 16 + 1)) != 0
 }
 
 // The first domain number from a start on, going round, that is planned or is not; 0 for none.
@@ -27,17 +26,26 @@ pub fn domain_from(words: &[u64], start: u32, planned: bool) -> usize
     0
 }
 
+// The kind that a domain offers with claim left; where it has both or neither, the one drawn.
+fn asked_kind(words: &[u64], row: usize, writes: bool) -> u8 {
+    let reads = forms::word(words, 11 * (row % 17) + 5) > 0;
+    let claims = forms::word(words, 11 * (row % 17) + 10) > 0;
+    let drawn = if writes { 2 } else { 1 };
+    if reads == claims {
+        return drawn;
+    }
+    if reads { 1 } else { 2 }
+}
+
 // The offer of a planned domain, or of best effort. Some domains offer in every slot of a run, so that they keep asking.
 fn offer(words: &[u64], style: Style, run: u32, seed: u32, n: u32) -> u8 {
     if style.offers == 0 {
         return 0;
     }
-    let row = (n % 17) as usize;
-    let full = forms::word(words, 9 * row + 8) == forms::word(words, 9 * row + 3);
     let writes = draw::upto(seed, std::num::wrapping_add_u32(n, 20), 15) < style.writebacks;
     let steady = draw::upto(run, std::num::wrapping_add_u32(n, 900), 3) == 0;
     if steady {
-        return if both(writes, !full) { 2 } else { 1 };
+        return asked_kind(words, (n % 17) as usize, writes);
     }
     if draw::upto(seed, std::num::wrapping_add_u32(n, 40), 15) >= style.offers {
         return 0;
@@ -123,9 +131,10 @@ fn any_domain(words: &[u64], n: u64, x: u32) -> u64 {
     }
 }
 
-// A number of units, none of which but the claim itself can be yielded.
-fn any_amount(claim: u64, x: u32) -> u64 {
-    match x % 9 {
+// A number of units, none of which but the claim itself can be yielded; that of both claims is not, where there is a
+// writeback claim.
+fn any_amount(claim: u64, writes: u64, x: u32) -> u64 {
+    match x % 10 {
         0 | 1 => 0,
         2 => claim,
         3 => std::num::wrapping_add_u64(claim, 1),
@@ -133,6 +142,7 @@ fn any_amount(claim: u64, x: u32) -> u64 {
         5 => 65537,
         6 => 4294967296,
         7 => 4294967297,
+        8 => std::num::wrapping_add_u64(claim, writes),
         _ => 18446744073709551615,
     }
 }
@@ -166,7 +176,8 @@ fn is_wrong(faults: u32, chosen: bool) -> bool {
 // A yield by a planned domain, with so many faults: in its domain number, in its units, or in both.
 fn yield_of(c: Call, words: &[u64], seed: u32, faults: u32) -> Call {
     let n = domain_from(words, draw::upto(seed, 10, 15), true);
-    let claim = forms::word(words, 9 * (n % 17) + 4);
+    let claim = forms::word(words, 11 * (n % 17) + 5);
+    let writes = forms::word(words, 11 * (n % 17) + 10);
     let x = draw::draw(seed, 12);
     let first = x / 16 % 2 == 0;
     let domain = if is_wrong(faults, first) {
@@ -175,7 +186,7 @@ fn yield_of(c: Call, words: &[u64], seed: u32, faults: u32) -> Call {
         n as u64
     };
     let k = if is_wrong(faults, !first) {
-        any_amount(claim, draw::draw(seed, 13) / 64)
+        any_amount(claim, writes, draw::draw(seed, 13) / 64)
     } else {
         some_of(claim, seed)
     };

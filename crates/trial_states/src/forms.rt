@@ -1,4 +1,4 @@
-// The library's states, plans and counts as the words of the model, and back: word 9 * row + column.
+// The library's states, plans and counts as the words of the model, and back: word 11 * row + column.
 ghost use Prim.Native.Nat.{_≤_};
 use plan::Plan;
 use regulator::Counts;
@@ -10,12 +10,12 @@ use trial_kit::values;
 // the state.
 pub const FORCE: usize = 0;
 
-pub const NEXT: usize = 153;
+pub const NEXT: usize = 187;
 
-pub const GIVEN: usize = 306;
+pub const GIVEN: usize = 374;
 
 // The flag: whether a plan waits.
-pub const WAITS: usize = 154;
+pub const WAITS: usize = 188;
 
 // A word, 0 where there is none.
 pub fn word(words: &[u64], k: usize) -> u64 {
@@ -61,34 +61,34 @@ fn low(x: u64) -> u16 {
 
 // Puts sixteen numbers, one in each row from a word on.
 fn put_numbers(to: &mut [u64], from: usize, numbers: [u16; 16])
-    requires { ⌜ from ≤ 17 ⌝ }
+    requires { ⌜ from ≤ 21 ⌝ }
 {
     let mut i: usize = 0;
     while i < 16 {
-        put(to, from + 9 * i, wide(numbers[i]));
+        put(to, from + 11 * i, wide(numbers[i]));
         i += 1;
     }
 }
 
 fn numbers(words: &[u64], from: usize) -> [u16; 16]
-    requires { ⌜ from ≤ 459 ⌝ }
+    requires { ⌜ from ≤ 561 ⌝ }
 {
     let mut all = [0u16; 16];
     let mut i: usize = 0;
     while i < 16 {
-        all[i] = low(word(words, from + 9 * i));
+        all[i] = low(word(words, from + 11 * i));
         i += 1;
     }
     all
 }
 
 fn flags(words: &[u64], from: usize) -> [bool; 16]
-    requires { ⌜ from ≤ 459 ⌝ }
+    requires { ⌜ from ≤ 561 ⌝ }
 {
     let mut all = [false; 16];
     let mut i: usize = 0;
     while i < 16 {
-        all[i] = word(words, from + 9 * i) != 0;
+        all[i] = word(words, from + 11 * i) != 0;
         i += 1;
     }
     all
@@ -96,26 +96,27 @@ fn flags(words: &[u64], from: usize) -> [bool; 16]
 
 // Puts a plan, from FORCE, NEXT or GIVEN on.
 pub fn put_plan(to: &mut [u64], from: usize, p: Plan)
-    requires { ⌜ from ≤ 306 ⌝ }
+    requires { ⌜ from ≤ 374 ⌝ }
 {
     put(to, from, wide(p.period));
     let mut k: u32 = 0;
-    while k < 64 {
-        let at = from + 9 * (k / 4 + 1) as usize + (k % 4) as usize;
+    while k < 80 {
+        let at = from + 11 * (k / 5 + 1) as usize + (k % 5) as usize;
         put(to, at, values::word(p, k) as u64);
         k += 1;
     }
 }
 
 pub fn plan_of(words: &[u64], from: usize) -> Plan
-    requires { ⌜ from ≤ 306 ⌝ }
+    requires { ⌜ from ≤ 374 ⌝ }
 {
     Plan {
         period: low(word(words, from)),
-        planned: flags(words, from + 9),
-        reservation: numbers(words, from + 10),
-        reclaimcap: numbers(words, from + 11),
-        writebackcap: numbers(words, from + 12),
+        planned: flags(words, from + 11),
+        reservation: numbers(words, from + 12),
+        reclaimcap: numbers(words, from + 13),
+        writebackcap: numbers(words, from + 14),
+        writebackreservation: numbers(words, from + 15),
     }
 }
 
@@ -146,14 +147,16 @@ pub fn put_state(to: &mut [u64], s: State) {
     let yielded = s.yielded;
     let writebacks = s.writebacks;
     let waiting = s.waiting;
+    let writebackclaim = s.writebackclaim;
     put_plan(to, FORCE, p);
     put_slots(to, s.decided, s.idle, s.best, s.stock, s.steps);
     put_lasting(to, s.closed, s.turn, waiting);
-    put_numbers(to, 13, claim);
-    put_numbers(to, 14, reserved);
-    put_numbers(to, 15, reclaimed);
-    put_numbers(to, 16, yielded);
-    put_numbers(to, 17, writebacks);
+    put_numbers(to, 16, claim);
+    put_numbers(to, 17, reserved);
+    put_numbers(to, 18, reclaimed);
+    put_numbers(to, 19, yielded);
+    put_numbers(to, 20, writebacks);
+    put_numbers(to, 21, writebackclaim);
 }
 
 fn waiting_of(words: &[u64]) -> Waiting {
@@ -173,13 +176,14 @@ pub fn state_of(words: &[u64]) -> State {
         best: low(word(words, 4)),
         stock: low(word(words, 5)),
         turn: word(words, 6) as usize,
-        claim: numbers(words, 13),
-        reserved: numbers(words, 14),
-        reclaimed: numbers(words, 15),
-        yielded: numbers(words, 16),
-        writebacks: numbers(words, 17),
+        claim: numbers(words, 16),
+        reserved: numbers(words, 17),
+        reclaimed: numbers(words, 18),
+        yielded: numbers(words, 19),
+        writebacks: numbers(words, 20),
         steps: (word(words, 7) % 4294967296) as u32,
         waiting: waiting_of(words),
+        writebackclaim: numbers(words, 21),
     }
 }
 
@@ -198,8 +202,8 @@ pub fn put_counts(to: &mut [u64], c: Counts) {
     put(to, 3, wide(c.idle));
     put(to, 4, wide(c.best));
     put(to, 7, c.steps as u64);
-    put_numbers(to, 14, reserved);
-    put_numbers(to, 15, reclaimed);
-    put_numbers(to, 16, yielded);
-    put_numbers(to, 17, writebacks);
+    put_numbers(to, 17, reserved);
+    put_numbers(to, 18, reclaimed);
+    put_numbers(to, 19, yielded);
+    put_numbers(to, 20, writebacks);
 }

@@ -15,13 +15,14 @@ fn with_drawn(p: Plan, domain: u32, most: u32, seed: u32) -> Plan {
     let period = values::wide(p.period);
     let r = draw::upto(seed, 92, period);
     let w = draw::upto(seed, 93, period);
-    values::with_numbers(p, domain, draw::upto(seed, 91, most), r, w)
+    let v = draw::upto(seed, 99, if w < 2 { w } else { 2 });
+    values::with_numbers(p, domain, draw::upto(seed, 91, most), r, w, v)
 }
 
 fn without(p: Plan, domain: u32) -> Plan
     requires { ⌜ domain ≤ 15 ⌝ }
 {
-    values::with_word(values::with_numbers(p, domain, 0, 0, 0), domain * 4, 0)
+    values::with_word(values::with_numbers(p, domain, 0, 0, 0, 0), domain * 5, 0)
 }
 
 // The index of a domain that is planned or is not.
@@ -38,7 +39,7 @@ fn edited(words: &[u64], seed: u32) -> Plan {
     let period = values::wide(p.period);
     let present = index_from(words, draw::upto(seed, 94, 15), true);
     let absent = index_from(words, draw::upto(seed, 95, 15), false);
-    let k = present * 4;
+    let k = present * 5;
     match draw::upto(seed, 96, 6) {
         0 => p,
         1 => with_drawn(p, absent, 2, seed),
@@ -50,15 +51,16 @@ fn edited(words: &[u64], seed: u32) -> Plan {
             values::word(p, k + 1),
             values::word(p, k + 2),
             values::word(p, k + 3),
+            values::word(p, k + 4),
         ),
         5 => values::with_period(p, period + 1),
         _ => values::with_period(p, period + 65535),
     }
 }
 
-// The plan as it would be refused with 2, 9 or 10.
+// The plan as it would be refused with 2, 9, 11 or 10.
 fn spoiled(p: Plan, seed: u32) -> Plan {
-    plans::spoiled(p, draw::upto(seed, 89, 3), seed)
+    plans::spoiled(p, draw::upto(seed, 89, 4), seed)
 }
 
 // A plan as runs of the style have it, or the one in force edited; one in four has a fault, or two.

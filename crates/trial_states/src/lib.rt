@@ -7,3 +7,4 @@ pub mod handing;
 pub mod marks;
 pub mod styles;
 pub mod sums;
+pub mod writes;

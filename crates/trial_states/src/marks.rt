@@ -17,50 +17,55 @@ const DROPPED: u32 = 3;
 
 const RESIZED: u32 = 4;
 
-const CLAIM: u32 = 5;
+pub const CLAIM: u32 = 5;
 
 const WRITEBACKS: u32 = 6;
 
 // Whether a word of a domain is another in the plan at hand, as bits.
 fn other(words: &[u64], at: usize) -> u64
-    requires { ⌜ at ≤ 152 ⌝ }
+    requires { ⌜ at ≤ 186 ⌝ }
 {
     forms::word(words, at) ^ forms::word(words, forms::GIVEN + at)
 }
 
+// The same of all numbers of a domain's row.
+fn otherwise(words: &[u64], at: usize) -> u64
+    requires { ⌜ at ≤ 176 ⌝ }
+{
+    let shares = other(words, at + 1) | other(words, at + 4);
+    shares | other(words, at + 2) | other(words, at + 3)
+}
+
 // Whether the domain whose row begins at a word has this.
 fn has(words: &[u64], at: usize, what: u32) -> bool
-    requires { ⌜ at ≤ 144 ⌝ }
+    requires { ⌜ at ≤ 176 ⌝ }
 {
     let planned = forms::word(words, at) != 0;
     let given = forms::word(words, forms::GIVEN + at) != 0;
-    let claim = forms::word(words, at + 4) != 0;
+    let claim = forms::word(words, at + 5) != 0;
     match what {
         PLANNED => planned,
         COMING => forms::word(words, forms::NEXT + at) != 0,
         GIVEN => given,
         DROPPED => both(claim, !given),
-        RESIZED => both(
-            both(planned, given),
-            (other(words, at + 1) | other(words, at + 2) | other(words, at + 3)) != 0,
-        ),
+        RESIZED => both(both(planned, given), otherwise(words, at) != 0),
         CLAIM => claim,
-        _ => forms::word(words, at + 8) != 0,
+        _ => forms::word(words, at + 9) != 0,
     }
 }
 
 // Bits with one more below them; sixteen are kept.
-fn with_bit(bits: u32, more: bool) -> u32 {
+pub fn with_bit(bits: u32, more: bool) -> u32 {
     let above = bits % 32768 * 2;
     if more { above + 1 } else { above }
 }
 
 // The domains that have this, domain 1 as the lowest bit.
-fn domains(words: &[u64], what: u32) -> u32 {
+pub fn domains(words: &[u64], what: u32) -> u32 {
     let mut bits: u32 = 0;
     let mut left: usize = 16;
     while left > 0 {
-        bits = with_bit(bits, has(words, 9 * left, what));
+        bits = with_bit(bits, has(words, 11 * left, what));
         left -= 1;
     }
     bits
@@ -171,8 +176,8 @@ pub fn of_plan(words: &[u64], number: u32) -> [bool; 13] {
 }
 
 // A changed state, what its plan beside the flag would be refused with, and whether it adds up: whether that plan waits, and
-// then would be refused with 2, 9 and 10; whether there is one that does not wait, would be refused, and the state adds up.
-pub fn of_change(words: &[u64], number: u32, adds: bool) -> [bool; 7] {
+// then would be refused with 2, 9, 11 and 10; whether there is one that does not wait, would be refused, and the state adds up.
+pub fn of_change(words: &[u64], number: u32, adds: bool) -> [bool; 8] {
     let waits = forms::word(words, forms::WAITS) != 0;
     let some = forms::word(words, forms::NEXT) | domains(words, COMING) as u64;
     let beside = both(some != 0, !waits);
@@ -181,6 +186,7 @@ pub fn of_change(words: &[u64], number: u32, adds: bool) -> [bool; 7] {
         waits,
         both(waits, number == 2),
         both(waits, number == 9),
+        both(waits, number == 11),
         both(waits, number == 10),
         beside,
         refused,

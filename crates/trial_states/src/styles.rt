@@ -40,8 +40,8 @@ fn styled(
     }
 }
 
-// Kinds 0 and 1 are openings, 2 to 14 and 21 to 23 runs, 15 to 20, 24 and 25 runs at whose every step a changed state is
-// tried too.
+// Kinds 0 and 1 are openings, 2 to 14, 21 to 23 and 27 runs, 15 to 20 and 24 to 26 runs at whose every step a changed state
+// is tried too.
 pub fn of_kind(kind: u32) -> Style {
     match kind {
         0 => styled(styles::ACCEPTED, 1500, 0, 0, 0, 0, 0, 0, 0),
@@ -69,6 +69,8 @@ pub fn of_kind(kind: u32) -> Style {
         22 => styled(styles::LEAST, 250, 100, 11, 4, 2, 2, 12, 10),
         23 => styled(styles::ONE, 100, 60, 11, 4, 2, 2, 16, 6),
         24 => styled(styles::LEAST, 100, 40, 9, 5, 3, 3, 4, 8),
-        _ => styled(styles::LEAST, 100, 40, 9, 5, 3, 3, 4, 8),
+        25 => styled(styles::LEAST, 100, 40, 9, 5, 3, 3, 4, 8),
+        26 => styled(styles::LEAST, 200, 60, 9, 8, 3, 0, 2, 8),
+        _ => styled(styles::OLDER, 150, 100, 11, 12, 2, 1, 2, 0),
     }
 }

@@ -21,7 +21,7 @@ pub record Gathers (P : ℕ) (ds : List Domain) (g : Gathered) : Type 0 where
   pub held : Holds P ds (g .plan)
   pub sum : g .sum ≡ lastOf 0 (sumsFrom 0 ds)
   pub sums : g .sums ≡ sumsHeld (sumsFrom 0 ds)
-  pub small : g .sum ≤ 65535 * length ds
+  pub small : g .sum ≤ 131070 * length ds
 
 pub gathers-none : (P : ℕ) → Gathers P [] (record { plan = noDomains P; sum = 0; sums = sumsHeld [] })
 gathers-none P =
@@ -37,7 +37,7 @@ module _ {P : ℕ} {ds : List Domain} {g : Gathered} (v : Gathers P ds g) (d : D
   few = room (v .held) d f unmet
 
   -- there is a place for its sum, and the sum is small enough to grow
-  pub spare : (g .sums .records < 16) × (g .sum ≤ 983025)
+  pub spare : (g .sums .records < 16) × (g .sum ≤ 1966050)
   spare =
       let e : g .sums .records ≡ length ds = ap (λ (m : Sums). m .records) (v .sums) ∙ sums-length 0 ds in
       (omega (arith, few), omega (arith, few, v .small))
@@ -49,7 +49,7 @@ module _ {P : ℕ} {ds : List Domain} {g : Gathered} (v : Gathers P ds g) (d : D
   sums-more : sumsFrom 0 (ds ++ (d ∷ [])) ≡ sumsFrom 0 ds ++ (more ∷ [])
   sums-more = sums-snoc 0 ds d ∙ ap (λ (n : ℕ). sumsFrom 0 ds ++ ((n + reserves d) ∷ [])) (sym (v .sum))
 
-  pub gathers-more : reserves d < 65536 → Gathers P (ds ++ (d ∷ [])) (withRecord g d)
+  pub gathers-more : reserves d ≤ 131070 → Gathers P (ds ++ (d ∷ [])) (withRecord g d)
   gathers-more wide =
       record {
         held = holds-more (v .held) d f unmet;

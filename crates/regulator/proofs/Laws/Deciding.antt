@@ -16,7 +16,7 @@ use Rattle.plan.specs.declared.value.Plan.{Plan}
 use Rattle.plan.specs.declared.value.Refusal.{Refusal}
 use Rattle.regulator.specs.State.{yielding, handing}
 use Rattle.regulator.specs.Turn.{granted, stepsOf, verdicts}
-use Rattle.regulator.specs.Grant.{onClaim, onStock, onNeither, domainGrant, grant, onward, decidedOf}
+use Rattle.regulator.specs.Grant.{onClaim, onStock, onNeither, onWriteback, domainGrant, grant, onward, decidedOf}
 use Rattle.regulator.specs.Close.{withoutCounts, withCounts, ended}
 use Rattle.regulator.specs.Refusals.{slotRefusal, yieldRefusal, handRefusal}
 use Rattle.regulator.specs.Calls.{oneSlot, slotOf, verdictsIn, yieldOf, handOf}
@@ -42,50 +42,68 @@ module _ (s : State) (o : List ℕ) where
       ∙ miss _ _ _ (ne-eqb (j + 1) 0 (λ z. omega arith))
       ∙ ap (λ (i : ℕ). domainGrant s i (eqb (nth o (j + 1)) 2)) q
 
-pub grant-claim : (s : State) (j : ℕ) (w : Bool) → 0 < nth (s .claim) j → domainGrant s j w ≡ onClaim s j w
-unfolding domainGrant
-grant-claim s j w h = hit _ _ _ (lt-ltb 0 (nth (s .claim) j) h)
+module _ (s : State) (j : ℕ) where
+  pub grant-claim : 0 < nth (s .claim) j → domainGrant s j false ≡ onClaim s j
+  unfolding domainGrant
+  grant-claim h = hit _ _ _ (lt-ltb 0 (nth (s .claim) j) h)
 
-pub grant-stock : (s : State) (j : ℕ) (w : Bool) → nth (s .claim) j ≡ 0 → domainGrant s j w ≡ onStock s j w
-unfolding domainGrant
-grant-stock s j w h = miss _ _ _ (le-ltb 0 (nth (s .claim) j) (omega arith))
+  pub grant-stock : nth (s .claim) j ≡ 0 → domainGrant s j false ≡ onStock s j
+  unfolding domainGrant
+  grant-stock h = miss _ _ _ (le-ltb 0 (nth (s .claim) j) (omega arith))
+
+  pub grant-writeback : (claimed : Bool) → ltb 0 (nth (s .writebackclaim) j) ≡ claimed → domainGrant s j true ≡ onWriteback s j claimed
+  unfolding domainGrant
+  grant-writeback claimed e = ap (onWriteback s j) e
 
 -- a decided slot, by what is granted
 module _ (s : State) (o : List ℕ) where
+  abbrev to : ℕ → State → State
+  to n t = onward t n (stepsOf s o)
+
   pub decided-none : decidedOf s o 17 ≡ onward (onNeither s (s .idle + 1) (s .best)) 17 (stepsOf s o)
-  decided-none = ap (λ (t : State). onward t 17 (stepsOf s o)) (grant-none s o)
+  decided-none = ap (to 17) (grant-none s o)
 
   pub decided-best : decidedOf s o 0 ≡ onward (onNeither s (s .idle) (s .best + 1)) 0 (stepsOf s o)
-  decided-best = ap (λ (t : State). onward t 0 (stepsOf s o)) (grant-best s o)
+  decided-best = ap (to 0) (grant-best s o)
 
   module _ (j : ℕ) (h : j < 16) where
-    pub decided-claim : 0 < nth (s .claim) j → decidedOf s o (j + 1) ≡ onward (onClaim s j (eqb (nth o (j + 1)) 2)) (j + 1) (stepsOf s o)
-    decided-claim c = ap (λ (t : State). onward t (j + 1) (stepsOf s o)) (grant-domain s o j h ∙ grant-claim s j (eqb (nth o (j + 1)) 2) c)
+    -- an access
+    module _ (w : nth o (j + 1) ≢ 2) where
+      access : grant s o (j + 1) ≡ domainGrant s j false
+      access = grant-domain s o j h ∙ ap (domainGrant s j) (ne-eqb _ 2 w)
 
-    pub decided-stock : nth (s .claim) j ≡ 0 → decidedOf s o (j + 1) ≡ onward (onStock s j (eqb (nth o (j + 1)) 2)) (j + 1) (stepsOf s o)
-    decided-stock c = ap (λ (t : State). onward t (j + 1) (stepsOf s o)) (grant-domain s o j h ∙ grant-stock s j (eqb (nth o (j + 1)) 2) c)
+      pub decided-claim : 0 < nth (s .claim) j → decidedOf s o (j + 1) ≡ onward (onClaim s j) (j + 1) (stepsOf s o)
+      decided-claim c = ap (to (j + 1)) (access ∙ grant-claim s j c)
+
+      pub decided-stock : nth (s .claim) j ≡ 0 → decidedOf s o (j + 1) ≡ onward (onStock s j) (j + 1) (stepsOf s o)
+      decided-stock c = ap (to (j + 1)) (access ∙ grant-stock s j c)
+
+    -- a writeback
+    pub decided-writeback : nth o (j + 1) ≡ 2 → (claimed : Bool) → ltb 0 (nth (s .writebackclaim) j) ≡ claimed
+        → decidedOf s o (j + 1) ≡ onward (onWriteback s j claimed) (j + 1) (stepsOf s o)
+    decided-writeback w claimed e =
+        ap (to (j + 1)) (grant-domain s o j h ∙ ap (domainGrant s j) (eq-eqb _ 2 w) ∙ grant-writeback s j claimed e)
 
 -- a grant leaves T, the closed periods and the sum of steps
 pub grant-time : (s : State) (o : List ℕ) (n : ℕ)
     → (grant s o n .decided ≡ s .decided) × (grant s o n .closed ≡ s .closed) × (grant s o n .steps ≡ s .steps)
 unfolding grant domainGrant
-grant-time s o n = go (eqb n 17) (eqb n 0) (ltb 0 (nth (s .claim) (n - 1)))
+grant-time s o n = go (eqb n 17) (eqb n 0) (eqb (nth o n) 2) (ltb 0 (nth (s .claim) (n - 1)))
   where
-    w : Bool
-    w = eqb (nth o n) 2
-
-    after-grant : Bool → Bool → Bool → State
-    after-grant a b c =
+    after-grant : Bool → Bool → Bool → Bool → State
+    after-grant a b w c =
         cond a (onNeither s (s .idle + 1) (s .best))
         (cond b (onNeither s (s .idle) (s .best + 1))
-        (cond c (onClaim s (n - 1) w) (onStock s (n - 1) w)))
+        (cond w (onWriteback s (n - 1) (ltb 0 (nth (s .writebackclaim) (n - 1))))
+        (cond c (onClaim s (n - 1)) (onStock s (n - 1)))))
 
-    go : (a b c : Bool)
-        → (after-grant a b c .decided ≡ s .decided) × (after-grant a b c .closed ≡ s .closed) × (after-grant a b c .steps ≡ s .steps)
-    go true b c = (refl, refl, refl)
-    go false true c = (refl, refl, refl)
-    go false false true = (refl, refl, refl)
-    go false false false = (refl, refl, refl)
+    go : (a b w c : Bool)
+        → (after-grant a b w c .decided ≡ s .decided) × (after-grant a b w c .closed ≡ s .closed) × (after-grant a b w c .steps ≡ s .steps)
+    go true b w c = (refl, refl, refl)
+    go false true w c = (refl, refl, refl)
+    go false false true c = (refl, refl, refl)
+    go false false false true = (refl, refl, refl)
+    go false false false false = (refl, refl, refl)
 
 -- the end of a slot
 module _ (s : State) (steps : ℕ) where

@@ -9,13 +9,13 @@ use native.Mathlib.Decide.{decLt, ℕ-discrete}
 use native.Mathlib.Omega.{arith}
 use lib.Dec.{eqb, ltb}
 use lib.Seq.{getD-set-same, getD-set-other}
-use borrow.Author.Tests.{eqb-true, eqb-false, eq-eqb, ne-eqb, le-ltb}
+use borrow.Author.Tests.{eqb-true, eqb-false, eq-eqb, ne-eqb, ltb-true, le-ltb}
 use Rattle.table.specs.Sums.{nth}
 use Rattle.table.specs.Ranges.{lowest}
-use Rattle.table.proofs.Tables.{miss, hit, both}
+use Rattle.table.proofs.Tables.{miss, hit, both, and-both}
 use Rattle.table.proofs.Searches.{lowest-at, lowest-none}
 use Rattle.table.proofs.Filling.{values-length, values-at}
-use Rattle.regulator.specs.Verdict.{atCap, waits, waiting, blocked, ruling, bestRuling, domainRuling, rulingAt, rulingOf, passes}
+use Rattle.regulator.specs.Verdict.{atCap, claimOf, waits, waiting, blocked, ruling, bestRuling, domainRuling, rulingAt, rulingOf, passes}
 use Rattle.regulator.specs.Turn.{ask, granted, stepsOf, distance, StepsAreDistance, rulings, verdicts}
 use Rattle.regulator.specs.declared.state.State.{State}
 use Rattle.regulator.proofs.Laws.Asking.{ask-passes, ask-most, passed-distance, ask-same, none-passes}
@@ -32,12 +32,12 @@ ruling-passes false false false false true b e = absurd (omega arith)
 ruling-passes false false false false false true e = absurd (omega arith)
 ruling-passes false false false false false false e = (refl, refl, λ z. (refl, refl, refl))
 
-ruling-waits : (n c q f d b : Bool) → (not n && (q && not c)) ≡ true → ruling n c q f d b ≡ 2
+ruling-waits : (n c q f d b : Bool) → (not n && q) ≡ true → c ≡ false → ruling n c q f d b ≡ 2
 unfolding ruling
-ruling-waits true c q f d b e = absurd (false≢true e)
-ruling-waits false c false f d b e = absurd (false≢true e)
-ruling-waits false true true f d b e = absurd (false≢true e)
-ruling-waits false false true f d b e = refl
+ruling-waits true c q f d b e h = absurd (false≢true e)
+ruling-waits false c false f d b e h = absurd (false≢true e)
+ruling-waits false true true f d b e h = absurd (false≢true (sym h))
+ruling-waits false false true f d b e h = refl
 
 ruling-not-one : (n c q f d b : Bool) → ruling n c q f d b ≢ 1
 unfolding ruling
@@ -71,11 +71,11 @@ module _ (s : State) (o : List ℕ) where
   best-ruled b e = ap (bestRuling (nth o 0)) e ∙ sym ruling-best
 
   pub domain-ruled : (b : Bool) → b ≡ blocked s o → (j : ℕ)
-      → domainRuling (nth o (j + 1)) (nth (s .claim) j) (nth (s .reclaimed) j) (nth (s .writebacks) j)
+      → domainRuling (nth o (j + 1)) (nth (s .claim) j) (nth (s .reclaimed) j) (nth (s .writebacks) j) (nth (s .writebackclaim) j)
       (nth (s .plan .reclaimcap) j) (nth (s .plan .writebackcap) j) (s .stock) b ≡ rulingOf s o (j + 1)
   unfolding rulingAt
   domain-ruled b e j =
-      ap (domainRuling (nth o (j + 1)) (nth (s .claim) j) (nth (s .reclaimed) j) (nth (s .writebacks) j)
+      ap (domainRuling (nth o (j + 1)) (nth (s .claim) j) (nth (s .reclaimed) j) (nth (s .writebacks) j) (nth (s .writebackclaim) j)
       (nth (s .plan .reclaimcap) j) (nth (s .plan .writebackcap) j) (s .stock)) e
       ∙ sym (ruling-domain j)
 
@@ -91,47 +91,77 @@ module _ (s : State) (o : List ℕ) where
       go true = ruling-not-one _ _ _ _ _ _
       go false = at-not-one (n - 1)
 
-  -- a domain that is waiting on claim passes
-  at-waits : (j : ℕ) → waiting s o j ≡ true → rulingAt s o j ≡ 2
-  unfolding waiting waits rulingAt
-  at-waits j e = ruling-waits _ _ _ _ _ _ e
-
-  pub waiting-passes : (j : ℕ) → waiting s o j ≡ true → passes s o (j + 1) ≡ true
-  waiting-passes j e = eq-eqb _ 2 (ruling-domain j ∙ at-waits j e)
-
   -- a granted writeback is below the cap
   abbrev pub BelowCap : ℕ → Type 0
-  BelowCap j = nth o (j + 1) ≡ 2 → nth (s .writebacks) j ≢ nth (s .plan .writebackcap) j
+  BelowCap j = nth (s .writebacks) j ≢ nth (s .plan .writebackcap) j
+
+  -- a domain that is waiting on claim passes, where writeback claim is left below the cap only
+  module _ (j : ℕ) (below : 0 < nth (s .writebackclaim) j → BelowCap j) where
+    at-waits : waiting s o j ≡ true → rulingAt s o j ≡ 2
+    unfolding waiting waits rulingAt atCap
+    at-waits e = go (eqb (nth o (j + 1)) 2) refl
+      where
+        kind : Bool → Bool
+        kind b = ltb 0 (cond b (nth (s .writebackclaim) j) (nth (s .claim) j))
+
+        go : (b : Bool) → eqb (nth o (j + 1)) 2 ≡ b → rulingAt s o j ≡ 2
+        go true w =
+            let c = and-both (not (eqb (nth o (j + 1)) 0)) _ e .1 in
+            ruling-waits _ _ _ _ _ _ e (rw (w, ne-eqb (nth (s .writebacks) j) (nth (s .plan .writebackcap) j) (below (ltb-true 0 _ (sym (ap kind w) ∙ c)))))
+        go false w = ruling-waits _ _ _ _ _ _ e (rw w)
+
+    pub waiting-passes : waiting s o j ≡ true → passes s o (j + 1) ≡ true
+    waiting-passes e = eq-eqb _ 2 (ruling-domain j ∙ at-waits e)
 
   -- What holds where number n is granted, or none at 17. Laws of a decided slot start from this alone.
   pub data Granted : ℕ → Type 0 where
     to-none : ((n : ℕ) → n ≤ 16 → passes s o n ≡ false) → Granted 17
     to-best : blocked s o ≡ false → Granted 0
-    on-claim : (j : ℕ) → j < 16 → 0 < nth (s .claim) j → BelowCap j → Granted (j + 1)
-    on-stock : (j : ℕ) → j < 16 → nth (s .claim) j ≡ 0 → nth (s .reclaimed) j ≢ nth (s .plan .reclaimcap) j → s .stock ≢ 0
-        → blocked s o ≡ false → BelowCap j → Granted (j + 1)
+    on-claim : (j : ℕ) → j < 16 → nth o (j + 1) ≢ 2 → 0 < nth (s .claim) j → Granted (j + 1)
+    on-stock : (j : ℕ) → j < 16 → nth o (j + 1) ≢ 2 → nth (s .claim) j ≡ 0 → nth (s .reclaimed) j ≢ nth (s .plan .reclaimcap) j → s .stock ≢ 0
+        → blocked s o ≡ false → Granted (j + 1)
+    on-writeback : (j : ℕ) → j < 16 → nth o (j + 1) ≡ 2 → BelowCap j → (claimed : Bool) → ltb 0 (nth (s .writebackclaim) j) ≡ claimed
+        → (claimed ≡ false → blocked s o ≡ false) → Granted (j + 1)
 
   best-granted : rulingOf s o 0 ≡ 2 → Granted 0
   best-granted e = let r = ruling-passes _ _ _ _ _ _ (sym ruling-best ∙ e) in to-best (r .2 refl .2)
 
-  domain-granted : (j : ℕ) → j < 16 → rulingAt s o j ≡ 2 → Granted (j + 1)
-  unfolding rulingAt atCap
-  domain-granted j h e = go (decLt 0 (nth (s .claim) j))
-    where
-      r : (eqb (nth o (j + 1)) 0 ≡ false)
-          × (atCap (nth o (j + 1)) (nth (s .writebacks) j) (nth (s .plan .writebackcap) j) ≡ false)
-          × (ltb 0 (nth (s .claim) j) ≡ false
-          → (eqb (nth (s .reclaimed) j) (nth (s .plan .reclaimcap) j) ≡ false) × (eqb (s .stock) 0 ≡ false) × (blocked s o ≡ false))
-      r = ruling-passes _ _ _ _ _ _ e
+  -- what a domain that passes tells
+  at-passes : (j : ℕ) → rulingAt s o j ≡ 2
+      → (atCap (nth o (j + 1)) (nth (s .writebacks) j) (nth (s .plan .writebackcap) j) ≡ false)
+      × (ltb 0 (claimOf (nth o (j + 1)) (nth (s .claim) j) (nth (s .writebackclaim) j)) ≡ false
+      → ((not (eqb (nth o (j + 1)) 2) && eqb (nth (s .reclaimed) j) (nth (s .plan .reclaimcap) j)) ≡ false)
+      × ((not (eqb (nth o (j + 1)) 2) && eqb (s .stock) 0) ≡ false) × (blocked s o ≡ false))
+  unfolding rulingAt
+  at-passes j e = let r = ruling-passes _ _ _ _ _ _ e in (r .1, r .2)
 
+  writeback-granted : (j : ℕ) → j < 16 → nth o (j + 1) ≡ 2 → rulingAt s o j ≡ 2 → Granted (j + 1)
+  unfolding atCap
+  writeback-granted j h w e = on-writeback j h w below (ltb 0 (nth (s .writebackclaim) j)) refl (λ c. at-passes j e .1 (rw w c) .2)
+    where
       below : BelowCap j
-      below x y = false≢true (sym (r .1) ∙ both (eq-eqb _ 2 x) (eq-eqb _ _ y))
+      below y = false≢true (sym (at-passes j e .0) ∙ both (eq-eqb _ 2 w) (eq-eqb _ _ y))
+
+  access-granted : (j : ℕ) → j < 16 → nth o (j + 1) ≢ 2 → rulingAt s o j ≡ 2 → Granted (j + 1)
+  access-granted j h w e = go (decLt 0 (nth (s .claim) j))
+    where
+      kind : eqb (nth o (j + 1)) 2 ≡ false
+      kind = ne-eqb _ 2 w
 
       go : Dec (0 < nth (s .claim) j) → Granted (j + 1)
-      go (yes c) = on-claim j h c below
+      go (yes c) = on-claim j h w c
       go (no c) =
-          let f = r .2 (le-ltb 0 (nth (s .claim) j) (omega arith)) in
-          on-stock j h (omega arith) (eqb-false _ _ (f .0)) (eqb-false _ _ (f .1)) (f .2) below
+          let f = at-passes j e .1 (rw kind (le-ltb 0 (nth (s .claim) j) (omega arith))) in
+          let r : eqb (nth (s .reclaimed) j) (nth (s .plan .reclaimcap) j) ≡ false = rw kind at (f .0) in
+          let z : eqb (s .stock) 0 ≡ false = rw kind at (f .1) in
+          on-stock j h w (omega arith) (eqb-false _ _ r) (eqb-false _ _ z) (f .2)
+
+  domain-granted : (j : ℕ) → j < 16 → rulingAt s o j ≡ 2 → Granted (j + 1)
+  domain-granted j h e = go (ℕ-discrete (nth o (j + 1)) 2)
+    where
+      go : Dec (nth o (j + 1) ≡ 2) → Granted (j + 1)
+      go (yes w) = writeback-granted j h w e
+      go (no w) = access-granted j h w e
 
   passing-granted : (n : ℕ) → n ≤ 16 → rulingOf s o n ≡ 2 → Granted n
   passing-granted n h e = go (ℕ-discrete n 0)
@@ -182,14 +212,15 @@ module _ (s : State) (o : List ℕ) where
         go (inl e) = rw e (to-none (none-passes (passes s o) (s .turn) h e))
         go (inr r) = passing-granted (granted s o) (r .0) (eqb-true _ 2 (r .1))
 
-  -- a domain that is granted without claim finds stock
-  pub stock-there : (n : ℕ) → Granted n → 0 < n → n < 17 → nth (s .claim) (n - 1) ≡ 0 → 0 < s .stock
-  stock-there n (to-none p) = λ a b z. absurd (omega arith)
-  stock-there n (to-best b) = λ a b z. absurd (omega arith)
-  stock-there n (on-claim j h c k) = λ a b z.
+  -- a domain that is granted an access without claim finds stock
+  pub stock-there : (n : ℕ) → Granted n → 0 < n → n < 17 → nth o n ≢ 2 → nth (s .claim) (n - 1) ≡ 0 → 0 < s .stock
+  stock-there n (to-none p) = λ a b w z. absurd (omega arith)
+  stock-there n (to-best b) = λ a b w z. absurd (omega arith)
+  stock-there n (on-claim j h k c) = λ a b w z.
       let q : j + 1 - 1 ≡ j = omega arith in
       absurd (omega (arith, ap (nth (s .claim)) q))
-  stock-there n (on-stock j h c r k b w) = λ a b z. omega arith
+  stock-there n (on-stock j h k c r v d) = λ a b w z. omega (arith, v)
+  stock-there n (on-writeback j h k l c e f) = λ a b w z. absurd (w k)
 
   -- the verdicts: 1 at the granted number, and the ruling elsewhere
   pub verdict-granted : granted s o < 17 → nth (verdicts s o) (granted s o) ≡ 1

@@ -81,7 +81,7 @@ module _ (s : State) (shape : Shaped s) (sound : addsUp s ≡ true) where
       go (yes q) =
           let e : linesBefore (ended t k .state) ≡ 8192 * (t .closed + 1) + 0 + 0 =
           ap (λ (x : Answer). linesBefore (x .state)) (ended-complete t k q) ∙ ap (λ (y : ℕ). 8192 * (t .closed + 1) + 0 + y) (sum-zeros 16) in
-          omega (arith, e, n .closed, n .decided, q, ap (λ (p : Plan). p .period) (n .plan), a .balanced .plan .small, yielded-fit s (a .balanced) shape)
+          omega (arith, e, n .closed, n .decided, q, ap (λ (p : Plan). p .period) (n .plan), a .balanced .plan .small, yielded-fit s (a .balanced) (shape .yielded) (shape .plan .reservation))
       go (no q) =
           let e : linesBefore (ended t k .state) ≡ linesBefore t = ap (λ (x : Answer). linesBefore (x .state)) (ended-open t k q) in
           omega (arith, e, n .closed, n .decided, ap sum (n .yielded))

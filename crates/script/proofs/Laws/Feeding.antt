@@ -225,7 +225,7 @@ module _ (r : Run) (part : List ℕ) (end : ℕ) (ends : LineEnd part (r .used) 
 pub line-small : (r : Run) → Sound r → r .refused ≡ 0 → Shaped (r .state) → r .state .closed < 4294967296 → r .line < 1000000000000000000
 line-small r s e shape few =
     let a = adds (r .state) (s .adds e) in
-    omega (arith, s .lines e, a .below, a .balanced .plan .small, yielded-fit (r .state) (a .balanced) shape)
+    omega (arith, s .lines e, a .below, a .balanced .plan .small, yielded-fit (r .state) (a .balanced) (shape .yielded) (shape .plan .reservation))
 
 -- Where a search for a line's end came to the end of the part, no line is left.
 pub fed-lineless : (part : List ℕ) (used end : ℕ) → LineEnd part used end → openEnd used end (length part) ≡ true

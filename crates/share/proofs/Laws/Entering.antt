@@ -2,17 +2,18 @@
 -- Assumes nothing.
 use mathlib.Core.Path.{_≡_, refl, sym, ap, ap₂, subst, _∙_}
 use mathlib.Core.Logic.{_≢_}
-use mathlib.Core.Bool.{Bool, cond}
+use mathlib.Core.Bool.{true, false, cond}
 use mathlib.Core.List.{List}
 use mathlib.Core.Option.{none, some}
 use Prim.Native.Nat.{ℕ, _+_, _-_, _≤_, _<_}
 use native.Mathlib.Decide.{ℕ-discrete}
 use native.Mathlib.Omega.{arith}
-use lib.Dec.{eqb, ltb}
+use lib.Dec.{eqb}
 use lib.ListN.{length}
-use borrow.Author.Tests.{eq-eqb, ne-eqb, lt-ltb, le-ltb}
-use Rattle.table.specs.Sums.{nth}
+use borrow.Author.Tests.{eq-eqb, ne-eqb, lt-ltb, le-ltb, ltb-true}
+use Rattle.table.specs.Sums.{nth, raised}
 use Rattle.table.proofs.Tables.{miss, hit}
+use Rattle.table.proofs.Elements.{repeat-at, raised-length, moved}
 use Rattle.plan.specs.Value.{Sized, reserved, planRefusal}
 use Rattle.plan.specs.declared.value.Plan.{Plan}
 use Rattle.plan.proofs.Laws.Values.{accepted}
@@ -26,52 +27,79 @@ use Rattle.regulator.specs.declared.state.State.{State}
 use Rattle.regulator.specs.declared.close.Answer.{Answer}
 use Rattle.regulator.specs.declared.calls.Yielding.{Yielding}
 use Rattle.regulator.specs.declared.calls.Handing.{Handing}
-use Rattle.regulator.proofs.Laws.Ruling.{Granted, to-none, to-best, on-claim, on-stock, granted-to, one-granted}
+use Rattle.regulator.proofs.Laws.Ruling.{Granted, to-none, to-best, on-claim, on-stock, on-writeback, granted-to, one-granted}
 use Rattle.regulator.proofs.Laws.Refusing.{yield-taken, hand-taken}
-use Rattle.regulator.proofs.Laws.Deciding.{decided-none, decided-best, decided-claim, decided-stock, ended-open, ended-complete, slot-refused, slot-decided, slot-number, steps-told, shown-refused, shown-decided, yield-number, yield-refused, yield-given, hand-number, hand-refused, hand-given}
+use Rattle.regulator.proofs.Laws.Deciding.{decided-none, decided-best, decided-claim, decided-stock, decided-writeback, ended-open, ended-complete, slot-refused, slot-decided, slot-number, steps-told, shown-refused, shown-decided, yield-number, yield-refused, yield-given, hand-number, hand-refused, hand-given}
 use Rattle.regulator.proofs.Laws.Keeping.{Kept, Next, slot-next, yielding-keeps, handing-keeps, Start, next-start, begun-keeps}
 use Rattle.share.specs.Call.{Call, slot, yield, handIn, SizedCall}
-use Rattle.share.specs.Ledger.{refusedCall, decidedSlot, Page, Slot, Period, pass, passing, slotEntry, enter}
+use Rattle.share.specs.Ledger.{refusedCall, decidedSlot, Page, Slot, Period, passing, slotEntry, enter}
 use Rattle.share.specs.Run.{Made, lent, made, taken, fed}
 use Rattle.share.specs.Share.{PeriodShare, RefusedChangesNothing}
-use Rattle.share.proofs.Laws.Reserving.{Past, nothing, pageOf, handedOf, periodOf, slotsWith, Safe, grant-safe, yield-safe, Whole, period-share}
+use Rattle.share.proofs.Laws.Reserving.{Past, nothing, Tallied, pageOf, handedOf, periodOf, slotsWith, Safe, grant-safe, yield-safe, Whole, period-share}
 
--- the entry of a slot is what the grant leaves
-entry-domain : (p : Page) (o : List ℕ) (j k : ℕ) → j < 16 → slotEntry p o (j + 1) k ≡ pass p j (ltb 0 (nth (p .claim) j)) (eqb (nth o (j + 1)) 2) k
-unfolding slotEntry
-entry-domain p o j k h =
-    let q : j + 1 - 1 ≡ j = omega arith in
-    miss _ _ _ (ne-eqb (j + 1) 17 (λ z. omega arith))
-    ∙ miss _ _ _ (ne-eqb (j + 1) 0 (λ z. omega arith))
-    ∙ ap (λ (i : ℕ). pass p i (ltb 0 (nth (p .claim) i)) (eqb (nth o (j + 1)) 2) k) q
-
--- the entry is what the decided slot leaves; the ledger holds a slot more
+-- the entry is what the decided slot leaves; the ledger holds a slot more, and what was entered on writeback claim is tallied
 pub record Entered (p : Page) (t : State) (ms : List Slot) : Type 0 where
   pub past : Past
   pub slots : past .slots ≡ ms
   pub page : p ≡ pageOf t past
+  pub tallied : Tallied t (past .claimedwritebacks)
 
-module _ (s : State) (m : Past) (o : List ℕ) where
-  -- what the ledger holds beyond the state is otherwise the same
-  abbrev same : (p : Page) (t : State) → p ≡ pageOf t m → Entered p t (slotsWith s m o)
-  same p t e = record { past = record { slots = slotsWith s m o }; slots = refl; page = e }
+module _ (s : State) (m : Past) (kept : Kept s) (tally : Tallied s (m .claimedwritebacks)) (o : List ℕ) where
+  -- number n is granted, and t is left
+  abbrev To : ℕ → State → Type 0
+  To n t = Entered (slotEntry (pageOf s m) o n (stepsOf s o)) t (slotsWith s m o)
 
-  entry-granted : (n : ℕ) → Granted s o n → Entered (slotEntry (pageOf s m) o n (stepsOf s o)) (decidedOf s o n) (slotsWith s m o)
+  into : (n : ℕ) (t : State) → decidedOf s o n ≡ t → To n t → To n (decidedOf s o n)
+  into n t e x = subst (To n) (sym e) x
+
+  -- where plan and writeback claims remain, so does what was entered on them
+  same : (n : ℕ) (t : State) → slotEntry (pageOf s m) o n (stepsOf s o) ≡ pageOf t m → t .writebackclaim ≡ s .writebackclaim → t .plan ≡ s .plan → To n t
+  same n t e c q =
+      record {
+        past = record { slots = slotsWith s m o; claimedwritebacks = m .claimedwritebacks };
+        slots = refl;
+        page = e;
+        tallied = record { long = tally .long; all = λ j h. rw (c, q) (tally .all j h) };
+      }
+
+  -- the tests of the number of the domain at index j
+  module _ (j : ℕ) (h : j < 16) where
+    not-idle : eqb (j + 1) 17 ≡ false
+    not-idle = ne-eqb (j + 1) 17 (λ z. omega arith)
+
+    not-best : eqb (j + 1) 0 ≡ false
+    not-best = ne-eqb (j + 1) 0 (λ z. omega arith)
+
+    index : j + 1 - 1 ≡ j
+    index = omega arith
+
+  entry-granted : (n : ℕ) → Granted s o n → To n (decidedOf s o n)
   unfolding slotEntry
-  entry-granted n (to-none p) = same _ _ (sym (ap (λ (t : State). pageOf t m) (decided-none s o)))
-  entry-granted n (to-best p) = same _ _ (sym (ap (λ (t : State). pageOf t m) (decided-best s o)))
-  entry-granted n (on-claim j h c f) =
-      let w = eqb (nth o (j + 1)) 2 in
-      same _ _
-      (entry-domain (pageOf s m) o j (stepsOf s o) h
-      ∙ ap (λ (b : Bool). pass (pageOf s m) j b w (stepsOf s o)) (lt-ltb 0 (nth (s .claim) j) c)
-      ∙ sym (ap (λ (t : State). pageOf t m) (decided-claim s o j h c)))
-  entry-granted n (on-stock j h c r z b f) =
-      let w = eqb (nth o (j + 1)) 2 in
-      same _ _
-      (entry-domain (pageOf s m) o j (stepsOf s o) h
-      ∙ ap (λ (b : Bool). pass (pageOf s m) j b w (stepsOf s o)) (le-ltb 0 (nth (s .claim) j) (omega arith))
-      ∙ sym (ap (λ (t : State). pageOf t m) (decided-stock s o j h c)))
+  entry-granted n (to-none p) = into 17 _ (decided-none s o) (same 17 _ refl refl refl)
+  entry-granted n (to-best p) = into 0 _ (decided-best s o) (same 0 _ refl refl refl)
+  entry-granted n (on-claim j h w c) =
+      into (j + 1) _ (decided-claim s o j h w c)
+      (same (j + 1) _ (rw (not-idle j h, not-best j h, index j h, ne-eqb _ 2 w, lt-ltb 0 (nth (s .claim) j) c)) refl refl)
+  entry-granted n (on-stock j h w c r z b) =
+      into (j + 1) _ (decided-stock s o j h w c)
+      (same (j + 1) _ (rw (not-idle j h, not-best j h, index j h, ne-eqb _ 2 w, le-ltb 0 (nth (s .claim) j) (omega arith))) refl refl)
+  entry-granted n (on-writeback j h w f false e b) =
+      into (j + 1) _ (decided-writeback s o j h w false e)
+      (same (j + 1) _ (rw (not-idle j h, not-best j h, index j h, eq-eqb _ 2 w, e)) refl refl)
+  entry-granted n (on-writeback j h w f true e b) =
+      let l = m .claimedwritebacks in
+      into (j + 1) _ (decided-writeback s o j h w true e)
+      (record {
+        past = record { slots = slotsWith s m o; claimedwritebacks = raised l j 1 };
+        slots = refl;
+        page = rw (not-idle j h, not-best j h, index j h, eq-eqb _ 2 w, e);
+        tallied = record {
+          long = raised-length l j 1 ∙ tally .long;
+          all = λ i hi.
+              let up = moved (s .writebackclaim) l j 1 (omega (arith, kept .shape .writebackclaim)) (omega (arith, tally .long)) i (ltb-true 0 _ e) in
+              omega (arith, up, tally .all i hi);
+        };
+      })
 
 -- what holds when a call comes
 pub record Ready (s : State) (m : Past) : Type 0 where
@@ -83,7 +111,11 @@ unfolding reserved
 begun-ready p x n t h =
     let a = accepted p (x .taken) in
     record {
-      whole = record { kept = begun-keeps p x n t h; safe = λ j hj k c. omega (arith, a .sum) };
+      whole = record {
+        kept = begun-keeps p x n t h;
+        safe = λ j hj k c. omega (arith, a .sum);
+        tallied = record { long = refl; all = λ j hj. omega (arith, repeat-at {A = ℕ} 16 j 0) };
+      };
       below = a .one;
     }
 
@@ -167,13 +199,14 @@ module _ (s : State) (m : Past) (r : Ready s m) where
     after-grant = slot-next s kept o
 
     entry : Entered (slotEntry (pageOf s m) o (granted s o) (stepsOf s o)) next (slotsWith s m o)
-    entry = entry-granted s m o (granted s o) to
+    entry = entry-granted s m kept (r .whole .tallied) o (granted s o) to
 
     whole-after : Whole next (entry .past)
     whole-after =
         record {
           kept = after-grant .kept;
           safe = subst (Safe next) (sym (entry .slots)) (grant-safe s m o kept (r .below) (r .whole .safe) (granted s o) to);
+          tallied = entry .tallied;
         }
 
     slot-entered : enter (periodOf s m) (fed (made s (slot o b))) ≡ periodOf next (entry .past)
@@ -226,6 +259,7 @@ module _ (s : State) (m : Past) (r : Ready s m) where
           whole = record {
             kept = yielding-keeps s kept (d - 1) k i (t .fits);
             safe = yield-safe s kept (m .slots) (r .whole .safe) (d - 1) k i (t .fits);
+            tallied = record { long = r .whole .tallied .long; all = r .whole .tallied .all };
           };
           below = r .below;
         })
@@ -241,7 +275,11 @@ module _ (s : State) (m : Past) (r : Ready s m) where
     step-hand =
         goes-on (handing s p) m hand-entered (ap (λ (a : Handing). a .state) (hand-given s p e)) refl
         (record {
-          whole = record { kept = handing-keeps s kept p z (hand-taken s p e); safe = r .whole .safe };
+          whole = record {
+            kept = handing-keeps s kept p z (hand-taken s p e);
+            safe = r .whole .safe;
+            tallied = record { long = r .whole .tallied .long; all = r .whole .tallied .all };
+          };
           below = r .below;
         })
 

@@ -8,10 +8,10 @@ use Rattle.model_calls.proofs.calls.put_counts.Statement.{statement}
 use Rattle.model_calls.proofs.calls.put_counts.Tie as tie
 
 abbrev Inv-loop : tie.InvT-loop
-Inv-loop s counts₀ passes best others n₀ counts n = (n ≤ 17) × (length counts ≡ length counts₀)
+Inv-loop s counts₀ accesses passes best others n₀ counts n = (n ≤ 17) × (length counts ≡ length counts₀)
 
 abbrev μ-loop : tie.MeasureT-loop
-μ-loop s counts₀ passes best others n₀ counts n = 17 - n
+μ-loop s counts₀ accesses passes best others n₀ counts n = 17 - n
 
 pub put-counts-spec : {M : Type 1} → statement M
 put-counts-spec =
@@ -20,6 +20,8 @@ put-counts-spec =
     Inv-loop
     μ-loop
     (λ c κs. search needs)
+    (λ c κs. search needs)
+    (λ c. search needs)
     (λ c κs. search needs)
     (λ c. search needs)
     (λ c κs. search needs)

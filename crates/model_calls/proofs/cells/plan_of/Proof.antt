@@ -1,4 +1,4 @@
--- `model_calls::cells::plan_of` fills 64 words and ends.
+-- `model_calls::cells::plan_of` fills 80 words and ends.
 -- Assumes nothing.
 use Prim.Native.Nat.{_≤_, _-_}
 use borrow.Author.Needs.{needs}
@@ -8,10 +8,10 @@ use Rattle.model_calls.proofs.cells.plan_of.Statement.{statement}
 use Rattle.model_calls.proofs.cells.plan_of.Tie as tie
 
 abbrev Inv-loop : tie.InvT-loop
-Inv-loop s from domains₀ k₀ domains k = (k ≤ 64) × (length domains ≡ 64)
+Inv-loop s from domains₀ k₀ domains k = (k ≤ 80) × (length domains ≡ 80)
 
 abbrev μ-loop : tie.MeasureT-loop
-μ-loop s from domains₀ k₀ domains k = 64 - k
+μ-loop s from domains₀ k₀ domains k = 80 - k
 
 pub plan-of-spec : {M : Type 1} → statement M
 plan-of-spec =

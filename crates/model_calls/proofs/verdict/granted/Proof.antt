@@ -6,10 +6,10 @@ use Rattle.model_calls.proofs.verdict.granted.Statement.{statement}
 use Rattle.model_calls.proofs.verdict.granted.Tie as tie
 
 abbrev Inv-loop : tie.InvT-loop
-Inv-loop s offers turn soonest₀ n₀ soonest n = (n ≤ 17) × (soonest ≤ 17)
+Inv-loop s offers turn shut soonest₀ n₀ soonest n = (n ≤ 17) × (soonest ≤ 17)
 
 abbrev μ-loop : tie.MeasureT-loop
-μ-loop s offers turn soonest₀ n₀ soonest n = 17 - n
+μ-loop s offers turn shut soonest₀ n₀ soonest n = 17 - n
 
 pub granted-spec : {M : Type 1} → statement M
 granted-spec =
@@ -17,6 +17,7 @@ granted-spec =
     (tie.spec
     Inv-loop
     μ-loop
+    (λ c κs. search needs)
     (λ c κs. search needs)
     (λ c. search needs)
     (λ c κs. search needs)

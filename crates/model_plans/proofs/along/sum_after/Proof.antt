@@ -1,4 +1,4 @@
--- `model_plans::along::sum_after` is safe: k records come to at most k times 65,535.
+-- `model_plans::along::sum_after` is safe: k records come to at most k times 131,070.
 -- Assumes nothing.
 use Prim.Native.Nat.{_≤_, _-_, _*_}
 use borrow.Author.Needs.{needs}
@@ -6,7 +6,7 @@ use Rattle.model_plans.proofs.along.sum_after.Statement.{statement}
 use Rattle.model_plans.proofs.along.sum_after.Tie as tie
 
 abbrev Inv-loop : tie.InvT-loop
-Inv-loop file records sum₀ k₀ sum k = (k ≤ records) × (sum ≤ 65535 * k)
+Inv-loop file records sum₀ k₀ sum k = (k ≤ records) × (sum ≤ 131070 * k)
 
 abbrev μ-loop : tie.MeasureT-loop
 μ-loop file records sum₀ k₀ sum k = records - k
@@ -21,6 +21,8 @@ sum-after-spec =
     (λ c. search needs)
     (λ c κs. search needs)
     (λ c κs. search needs)
+    (λ c κs. search needs)
+    (λ c. search needs)
     (λ c. search needs)
     (λ c. search needs)
     (λ c. search needs)

@@ -1,4 +1,4 @@
--- `model_plans::words::count` is safe: n domains of a word each come to less than n times 2 to the 32.
+-- `model_plans::words::count` is safe: n domains of two words each come to less than n times 2 to the 33.
 -- Assumes nothing.
 use Prim.Native.Nat.{_≤_, _-_, _*_}
 use borrow.Author.Needs.{needs}
@@ -6,7 +6,7 @@ use Rattle.model_plans.proofs.words.count.Statement.{statement}
 use Rattle.model_plans.proofs.words.count.Tie as tie
 
 abbrev Inv-loop : tie.InvT-loop
-Inv-loop period domains t₀ n₀ t n = (n ≤ 16) × (t .present ≤ n) × (t .reservation ≤ 4294967295 * n)
+Inv-loop period domains t₀ n₀ t n = (n ≤ 16) × (t .present ≤ n) × (t .reservations ≤ 8589934591 * n)
 
 abbrev μ-loop : tie.MeasureT-loop
 μ-loop period domains t₀ n₀ t n = 16 - n
@@ -19,8 +19,27 @@ count-spec =
     μ-loop
     (λ c. search needs)
     (λ c. search needs)
-    (λ c κs. search needs)
     (λ c. search needs)
+    (λ c. search needs)
+    (λ c. search needs)
+    (λ c. search needs)
+    (λ c. search needs)
+    (λ c. search needs)
+    (λ c. search needs)
+    (λ c. search needs)
+    (λ c. search needs)
+    (λ c. search needs)
+    (λ c. search needs)
+    (λ c. search needs)
+    (λ c. search needs)
+    (λ c. search needs)
+    (λ c. search needs)
+    (λ c. search needs)
+    (λ c. search needs)
+    (λ c. search needs)
+    (λ c. search needs)
+    (λ c. search needs)
+    (λ c κs. search needs)
     (λ c. search needs)
     (λ c. search needs)
     (λ c. search needs))

@@ -1,8 +1,7 @@
 -- `regulator::calls::give` meets its contract: a yield that is not refused has the claim, and nothing wraps.
 -- Assumes nothing.
-use Prim.Native.Nat.{_-_, _<_}
+use Prim.Native.Nat.{_-_, _≤_, _<_}
 use native.Mathlib.Omega.{arith}
-use Rattle.regulator.specs.State.{Shaped}
 use Rattle.regulator.proofs.Laws.Adding.{Balanced, Small, adds, small, stock-fits}
 use Rattle.regulator.proofs.Laws.Refusing.{YieldTaken, yield-taken}
 use borrow.Author.Needs.{needs}
@@ -16,17 +15,8 @@ taken c = yield-taken (c .args .s) (c .args .domain) (c .args .k) (search needs)
 balanced : (c : tie.Start) → Balanced (c .args .s)
 balanced c = adds (c .args .s) (taken c .adds) .balanced
 
-shaped : (c : tie.Start) → Shaped (c .args .s)
-shaped c =
-    record {
-      plan = record { planned = search needs; reservation = search needs; reclaimcap = search needs; writebackcap = search needs };
-      claim = search needs;
-      reserved = search needs;
-      reclaimed = search needs;
-      yielded = search needs;
-      writebacks = search needs;
-      waiting = record { planned = search needs; reservation = search needs; reclaimcap = search needs; writebackcap = search needs };
-    }
+stocked : (c : tie.Start) → c .args .s .stock ≤ c .args .s .plan .period
+stocked c = stock-fits (c .args .s) (balanced c) (search needs) (search needs)
 
 index : (c : tie.Start) → c .args .domain - 1 < 16
 index c = omega (arith, taken c .low, taken c .high)
@@ -46,7 +36,7 @@ move-claim-requires c κs = (
   (
     taken c .fits,
     (
-      omega (arith, stock-fits (c .args .s) (balanced c) (shaped c), balanced c .plan .small, taken c .fits, fits c .claim),
+      omega (arith, stocked c, balanced c .plan .small, taken c .fits, fits c .claim),
       omega (arith, taken c .fits, fits c .claim, fits c .yielded),
     ),
   ),

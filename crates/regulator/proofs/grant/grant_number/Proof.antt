@@ -1,10 +1,12 @@
 -- `regulator::grant::grant_number` meets its contract.
 -- Assumes nothing.
 use mathlib.Core.Path.{_≡_, sym, ap, _∙_}
+use mathlib.Core.Logic.{_≢_}
 use denote.Ref.{now}
 use Prim.Native.Nat.{ℕ, _+_, _-_, _<_}
 use native.Mathlib.Omega.{arith}
 use lib.Dec.{eqb}
+use borrow.Author.Tests.{eqb-false}
 use Rattle.table.specs.Sums.{nth}
 use Rattle.regulator.specs.Grant.{domainGrant, grant}
 use Rattle.regulator.proofs.Laws.Adding.{Adds, adds}
@@ -16,7 +18,7 @@ use Rattle.regulator.proofs.grant.grant_number.Tie as tie
 sound : (c : tie.Start) → Adds (c .args .s)
 sound c = adds (c .args .s) (search needs)
 
-stock : (c : tie.Start) → 0 < c .args .n → c .args .n < 17 → nth (c .args .s .claim) (c .args .n - 1) ≡ 0 → 0 < c .args .s .stock
+stock : (c : tie.Start) → 0 < c .args .n → c .args .n < 17 → nth (now (c .args .offers)) (c .args .n) ≢ 2 → nth (c .args .s .claim) (c .args .n - 1) ≡ 0 → 0 < c .args .s .stock
 stock c = search needs
 
 add-on-neither : tie.Need-add-on-neither
@@ -48,7 +50,7 @@ shared-slice-read-grant-domain : tie.Need-shared-slice-read-grant-domain
 shared-slice-read-grant-domain c = search needs
 
 grant-domain-requires : tie.Need-grant-domain-requires
-grant-domain-requires c κs = (omega arith, (search needs, stock (c .before .before .before .before) (omega arith) (omega arith)))
+grant-domain-requires c κs = (omega arith, (search needs, λ w. stock (c .before .before .before .before) (omega arith) (omega arith) (eqb-false _ 2 w)))
 
 returns-3 : tie.Need-returns-3
 returns-3 c =

@@ -20,6 +20,9 @@ total-requires-2 c κs = search needs
 total-requires-3 : tie.Need-total-requires-3
 total-requires-3 c κs = search needs
 
+total-requires-4 : tie.Need-total-requires-4
+total-requires-4 c κs = search needs
+
 sums-add-up-requires : tie.Need-sums-add-up-requires
 sums-add-up-requires c κs = search needs
 
@@ -38,17 +41,19 @@ returns c =
     let waiting = c .before .before .before .before .before in
     let steps = waiting .before .before in
     let b = steps .before in
-    let d = b .before .before .before .before in
-    let total = b .before .before .before .total .ensures .0 in
-    let total2 = b .before .before .total2 .ensures .0 in
-    let total3 = b .before .total3 .ensures .0 in
+    let d = b .before .before .before .before .before in
+    let total = b .before .before .before .before .total .ensures .0 in
+    let total2 = b .before .before .before .total2 .ensures .0 in
+    let total3 = b .before .before .total3 .ensures .0 in
+    let total4 = b .before .total4 .ensures .0 in
     rw (
-      d .before .before .before .before .check .ensures,
+      d .before .before .before .before .before .check .ensures,
       d .domains-add-up .ensures,
       b .sums-add-up .ensures,
       total,
       total2,
       total3,
+      total4,
       steps .steps-add-up .ensures,
       waiting .waiting-adds-up .ensures,
     ) at (c .all-seven .ensures)
@@ -62,6 +67,7 @@ adds-up-spec =
     total-requires
     total-requires-2
     total-requires-3
+    total-requires-4
     sums-add-up-requires
     steps-add-up-requires
     waiting-adds-up-requires

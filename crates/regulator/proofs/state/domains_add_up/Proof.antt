@@ -20,78 +20,21 @@ abbrev μ-loop : tie.MeasureT-loop
 loop-holds : tie.Need-loop-holds Inv-loop μ-loop
 loop-holds c = (search needs, every-none _)
 
-mul-numbers-add-up : tie.Need-mul-numbers-add-up Inv-loop μ-loop
-mul-numbers-add-up c = search needs
-
-element-copy-out-numbers-add-up : tie.Need-element-copy-out-numbers-add-up Inv-loop μ-loop
-element-copy-out-numbers-add-up c = search needs
-
-mul-numbers-add-up-2 : tie.Need-mul-numbers-add-up-2 Inv-loop μ-loop
-mul-numbers-add-up-2 c = search needs
-
-element-copy-out-numbers-add-up-2 : tie.Need-element-copy-out-numbers-add-up-2 Inv-loop μ-loop
-element-copy-out-numbers-add-up-2 c = search needs
-
-mul-numbers-add-up-3 : tie.Need-mul-numbers-add-up-3 Inv-loop μ-loop
-mul-numbers-add-up-3 c = search needs
-
-element-copy-out-numbers-add-up-3 : tie.Need-element-copy-out-numbers-add-up-3 Inv-loop μ-loop
-element-copy-out-numbers-add-up-3 c = search needs
-
-mul-numbers-add-up-4 : tie.Need-mul-numbers-add-up-4 Inv-loop μ-loop
-mul-numbers-add-up-4 c = search needs
-
-element-copy-out-numbers-add-up-4 : tie.Need-element-copy-out-numbers-add-up-4 Inv-loop μ-loop
-element-copy-out-numbers-add-up-4 c = search needs
-
-mul-numbers-add-up-5 : tie.Need-mul-numbers-add-up-5 Inv-loop μ-loop
-mul-numbers-add-up-5 c = search needs
-
-element-copy-out-numbers-add-up-5 : tie.Need-element-copy-out-numbers-add-up-5 Inv-loop μ-loop
-element-copy-out-numbers-add-up-5 c = search needs
-
-mul-numbers-add-up-6 : tie.Need-mul-numbers-add-up-6 Inv-loop μ-loop
-mul-numbers-add-up-6 c = search needs
-
-element-copy-out-numbers-add-up-6 : tie.Need-element-copy-out-numbers-add-up-6 Inv-loop μ-loop
-element-copy-out-numbers-add-up-6 c = search needs
-
-mul-numbers-add-up-7 : tie.Need-mul-numbers-add-up-7 Inv-loop μ-loop
-mul-numbers-add-up-7 c = search needs
-
-element-copy-out-numbers-add-up-7 : tie.Need-element-copy-out-numbers-add-up-7 Inv-loop μ-loop
-element-copy-out-numbers-add-up-7 c = search needs
-
-mul-numbers-add-up-8 : tie.Need-mul-numbers-add-up-8 Inv-loop μ-loop
-mul-numbers-add-up-8 c = search needs
-
-element-copy-out-numbers-add-up-8 : tie.Need-element-copy-out-numbers-add-up-8 Inv-loop μ-loop
-element-copy-out-numbers-add-up-8 c = search needs
-
-numbers-add-up-requires : tie.Need-numbers-add-up-requires Inv-loop μ-loop
-numbers-add-up-requires c κs = search needs
-
 -- what the code tests is what the definition does
 test : (c : tie.After-numbers-add-up Inv-loop μ-loop)
-    → (let l = c .before .before .before .before .before .before .before .before .before .before in
+    → (let l = c .before .before .before .before .before .before .before .before .before .before .before .before in
     c .numbers-add-up .result ≡ domainAddsUp (l .before .before .args .t1) (l .loop .j))
 unfolding domainAddsUp
 test c = c .numbers-add-up .ensures
 
 returns : tie.Need-returns Inv-loop μ-loop
 returns c =
-    let l = c .before .before .before .before .before .before .before .before .before .before .before in
-    sym (every-out _ 16 (l .loop .j) (c .before .before .before .before .before .before .before .before .before .before .loop-test .taken) (sym (test (c .before)) ∙ c .if1 .left))
-
-add-j : tie.Need-add-j Inv-loop μ-loop
-add-j c = search needs
-
-loop-less : tie.Need-loop-less Inv-loop μ-loop
-loop-less c = search needs
+    let l = c .before .before .before .before .before .before .before .before .before .before .before .before .before in
+    sym (every-out _ 16 (l .loop .j) (c .before .before .before .before .before .before .before .before .before .before .before .before .loop-test .taken) (sym (test (c .before)) ∙ c .if1 .left))
 
 loop-again : tie.Need-loop-again Inv-loop μ-loop
 loop-again c =
-    let l = c .before .before .before .before .before .before .before .before .before .before .before in
+    let l = c .before .before .before .before .before .before .before .before .before .before .before .before .before in
     (omega arith, every-more _ _ (l .loop .inv .1) (sym (test (c .before)) ∙ c .if1 .taken))
 
 returns-2 : tie.Need-returns-2 Inv-loop μ-loop
@@ -107,25 +50,29 @@ domains-add-up-spec =
     Inv-loop
     μ-loop
     loop-holds
-    mul-numbers-add-up
-    element-copy-out-numbers-add-up
-    mul-numbers-add-up-2
-    element-copy-out-numbers-add-up-2
-    mul-numbers-add-up-3
-    element-copy-out-numbers-add-up-3
-    mul-numbers-add-up-4
-    element-copy-out-numbers-add-up-4
-    mul-numbers-add-up-5
-    element-copy-out-numbers-add-up-5
-    mul-numbers-add-up-6
-    element-copy-out-numbers-add-up-6
-    mul-numbers-add-up-7
-    element-copy-out-numbers-add-up-7
-    mul-numbers-add-up-8
-    element-copy-out-numbers-add-up-8
-    numbers-add-up-requires
+    (λ c. search needs)
+    (λ c. search needs)
+    (λ c. search needs)
+    (λ c. search needs)
+    (λ c. search needs)
+    (λ c. search needs)
+    (λ c. search needs)
+    (λ c. search needs)
+    (λ c. search needs)
+    (λ c. search needs)
+    (λ c. search needs)
+    (λ c. search needs)
+    (λ c. search needs)
+    (λ c. search needs)
+    (λ c. search needs)
+    (λ c. search needs)
+    (λ c. search needs)
+    (λ c. search needs)
+    (λ c. search needs)
+    (λ c. search needs)
+    (λ c κs. search needs)
     returns
-    add-j
-    loop-less
+    (λ c. search needs)
+    (λ c. search needs)
     loop-again
     returns-2)

@@ -1,23 +1,18 @@
 -- `regulator::state::numbers_add_up` meets its contract, test by test.
 -- Assumes nothing.
+use mathlib.Core.Path.{ap}
+use lib.Dec.{eqb}
 use borrow.Author.Tests.{eq-eqb, ne-eqb, le-leb, lt-leb}
-use Rattle.regulator.specs.State.{numbersAddUp}
 use borrow.Author.Needs.{needs}
+use Rattle.regulator.specs.State.{numbersAddUp}
 use Rattle.regulator.proofs.state.numbers_add_up.Statement.{statement}
 use Rattle.regulator.proofs.state.numbers_add_up.Tie as tie
 
-add-if1 : tie.Need-add-if1
-add-if1 c = search needs
-
-add-if1-2 : tie.Need-add-if1-2
-add-if1-2 c = search needs
-
-add-result : tie.Need-add-result
-add-result c = search needs
-
 returns : tie.Need-returns
 unfolding numbersAddUp
-returns c = rw (eq-eqb _ _ (c .before .before .if1 .taken), le-leb _ _ (c .before .if2 .taken), le-leb _ _ (c .if3 .taken))
+returns c =
+    rw (eq-eqb _ _ (c .before .before .if1 .taken), le-leb _ _ (c .before .if2 .taken), le-leb _ _ (c .if3 .taken))
+    (ap (eqb (c .before .before .before .before .args .writebackclaim)) (c .before .before .before .less .ensures))
 
 returns-2 : tie.Need-returns-2
 unfolding numbersAddUp
@@ -33,4 +28,4 @@ returns-4 c = rw (ne-eqb _ _ (c .if1 .left))
 
 pub numbers-add-up-spec : {M : Type 1} → statement M
 numbers-add-up-spec =
-    tie.close (tie.spec add-if1 add-if1-2 add-result returns returns-2 returns-3 returns-4)
+    tie.close (tie.spec (λ c κs. search needs) (λ c. search needs) (λ c. search needs) returns returns-2 returns-3 returns-4)

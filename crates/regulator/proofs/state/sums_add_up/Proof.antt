@@ -17,6 +17,9 @@ add-result-2 c = search needs
 add-result-3 : tie.Need-add-result-3
 add-result-3 c = search needs
 
+add-result-4 : tie.Need-add-result-4
+add-result-4 c = search needs
+
 returns : tie.Need-returns
 returns c = rw (eq-eqb _ _ (c .if1 .taken))
 
@@ -25,4 +28,4 @@ returns-2 c = rw (ne-eqb _ _ (c .if1 .left))
 
 pub sums-add-up-spec : {M : Type 1} → statement M
 sums-add-up-spec =
-    tie.close (tie.spec add-if1 add-result add-result-2 add-result-3 returns returns-2)
+    tie.close (tie.spec add-if1 add-result add-result-2 add-result-3 add-result-4 returns returns-2)

@@ -13,68 +13,35 @@ use Rattle.regulator.proofs.verdict.any_waiting.Statement.{statement}
 use Rattle.regulator.proofs.verdict.any_waiting.Tie as tie
 
 abbrev Inv-loop : tie.InvT-loop
-Inv-loop offers s p j₀ j = (j ≤ 16) × (someBelow (waiting s offers) j ≡ false)
+Inv-loop offers s j₀ j = (j ≤ 16) × (someBelow (waiting s offers) j ≡ false)
 
 abbrev μ-loop : tie.MeasureT-loop
-μ-loop offers s p j₀ j = 16 - j
+μ-loop offers s j₀ j = 16 - j
 
 loop-holds : tie.Need-loop-holds Inv-loop μ-loop
 loop-holds c = (search needs, some-none _)
 
-add-is-waiting : tie.Need-add-is-waiting Inv-loop μ-loop
-add-is-waiting c = search needs
-
-shared-slice-read-is-waiting : tie.Need-shared-slice-read-is-waiting Inv-loop μ-loop
-shared-slice-read-is-waiting c = search needs
-
-mul-is-waiting : tie.Need-mul-is-waiting Inv-loop μ-loop
-mul-is-waiting c = search needs
-
-element-copy-out-is-waiting : tie.Need-element-copy-out-is-waiting Inv-loop μ-loop
-element-copy-out-is-waiting c = search needs
-
-mul-is-waiting-2 : tie.Need-mul-is-waiting-2 Inv-loop μ-loop
-mul-is-waiting-2 c = search needs
-
-element-copy-out-is-waiting-2 : tie.Need-element-copy-out-is-waiting-2 Inv-loop μ-loop
-element-copy-out-is-waiting-2 c = search needs
-
-mul-is-waiting-3 : tie.Need-mul-is-waiting-3 Inv-loop μ-loop
-mul-is-waiting-3 c = search needs
-
-element-copy-out-is-waiting-3 : tie.Need-element-copy-out-is-waiting-3 Inv-loop μ-loop
-element-copy-out-is-waiting-3 c = search needs
-
-is-waiting-requires : tie.Need-is-waiting-requires Inv-loop μ-loop
-is-waiting-requires c κs = search needs
-
 -- what the code tests is what the definition does
 test : (c : tie.After-is-waiting Inv-loop μ-loop)
-    → (let l = c .before .before .before .before .before .before in
-    c .is-waiting .result ≡ waiting (l .before .before .before .args .t1) (now (l .before .before .before .args .offers)) (l .loop .j))
+    → (let l = c .before .before .before .before .before in
+    c .is-waiting .result ≡ waiting (l .before .before .args .t1) (now (l .before .before .args .offers)) (l .loop .j))
 unfolding waiting
 test c = c .is-waiting .ensures
 
 returns : tie.Need-returns Inv-loop μ-loop
 returns c =
-    let l = c .before .before .before .before .before .before .before in
-    sym (some-at _ 16 (l .loop .j) (c .before .before .before .before .before .before .loop-test .taken) (sym (test (c .before)) ∙ c .if1 .taken))
-
-add-j : tie.Need-add-j Inv-loop μ-loop
-add-j c = search needs
-
-loop-less : tie.Need-loop-less Inv-loop μ-loop
-loop-less c = search needs
+    let l = c .before .before .before .before .before .before in
+    sym (some-at _ 16 (l .loop .j) (c .before .before .before .before .before .loop-test .taken) (sym (test (c .before)) ∙ c .if1 .taken))
 
 loop-again : tie.Need-loop-again Inv-loop μ-loop
 loop-again c =
-    let l = c .before .before .before .before .before .before .before in
+    let l = c .before .before .before .before .before .before in
     (omega arith, some-more _ _ (l .loop .inv .1) (sym (test (c .before)) ∙ c .if1 .left))
 
 returns-2 : tie.Need-returns-2 Inv-loop μ-loop
 returns-2 c =
     let l = c .before .loop in
-    let a = c .before .before .before .before .args in
+    let a = c .before .before .before .args in
     let all : l .j ≡ 16 = omega arith in
     sym (subst (λ (n : ℕ). someBelow (waiting (a .t1) (now (a .offers))) n ≡ false) all (l .inv .1))
 
@@ -85,17 +52,15 @@ any-waiting-spec =
     Inv-loop
     μ-loop
     loop-holds
-    add-is-waiting
-    shared-slice-read-is-waiting
-    mul-is-waiting
-    element-copy-out-is-waiting
-    mul-is-waiting-2
-    element-copy-out-is-waiting-2
-    mul-is-waiting-3
-    element-copy-out-is-waiting-3
-    is-waiting-requires
+    (λ c. search needs)
+    (λ c. search needs)
+    (λ c. search needs)
+    (λ c. search needs)
+    (λ c. search needs)
+    (λ c. search needs)
+    (λ c κs. search needs)
     returns
-    add-j
-    loop-less
+    (λ c. search needs)
+    (λ c. search needs)
     loop-again
     returns-2)

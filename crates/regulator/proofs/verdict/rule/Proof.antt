@@ -53,69 +53,18 @@ loop-holds c =
       filled-more f v 0 (c .rule-best .result) (omega (arith, long a)) (filled-none f v) (best c),
     )
 
-add-rule-domain : tie.Need-add-rule-domain Inv-loop μ-loop
-add-rule-domain c = search needs
-
-shared-slice-read-rule-domain : tie.Need-shared-slice-read-rule-domain Inv-loop μ-loop
-shared-slice-read-rule-domain c = search needs
-
-mul-rule-domain : tie.Need-mul-rule-domain Inv-loop μ-loop
-mul-rule-domain c = search needs
-
-element-copy-out-rule-domain : tie.Need-element-copy-out-rule-domain Inv-loop μ-loop
-element-copy-out-rule-domain c = search needs
-
-mul-rule-domain-2 : tie.Need-mul-rule-domain-2 Inv-loop μ-loop
-mul-rule-domain-2 c = search needs
-
-element-copy-out-rule-domain-2 : tie.Need-element-copy-out-rule-domain-2 Inv-loop μ-loop
-element-copy-out-rule-domain-2 c = search needs
-
-mul-rule-domain-3 : tie.Need-mul-rule-domain-3 Inv-loop μ-loop
-mul-rule-domain-3 c = search needs
-
-element-copy-out-rule-domain-3 : tie.Need-element-copy-out-rule-domain-3 Inv-loop μ-loop
-element-copy-out-rule-domain-3 c = search needs
-
-mul-rule-domain-4 : tie.Need-mul-rule-domain-4 Inv-loop μ-loop
-mul-rule-domain-4 c = search needs
-
-element-copy-out-rule-domain-4 : tie.Need-element-copy-out-rule-domain-4 Inv-loop μ-loop
-element-copy-out-rule-domain-4 c = search needs
-
-mul-rule-domain-5 : tie.Need-mul-rule-domain-5 Inv-loop μ-loop
-mul-rule-domain-5 c = search needs
-
-element-copy-out-rule-domain-5 : tie.Need-element-copy-out-rule-domain-5 Inv-loop μ-loop
-element-copy-out-rule-domain-5 c = search needs
-
-rule-domain-requires : tie.Need-rule-domain-requires Inv-loop μ-loop
-rule-domain-requires c κs = search needs
-
-add-verdicts : tie.Need-add-verdicts Inv-loop μ-loop
-add-verdicts c = search needs
-
-slice-write-verdicts-2 : tie.Need-slice-write-verdicts-2 Inv-loop μ-loop
-slice-write-verdicts-2 c = search needs
-
-add-j : tie.Need-add-j Inv-loop μ-loop
-add-j c = search needs
-
-loop-less : tie.Need-loop-less Inv-loop μ-loop
-loop-less c = search needs
-
 domain : (c : tie.After-rule-domain Inv-loop μ-loop)
-    → (let l = c .before .before .before .before .before .before .before .before in
+    → (let l = c .before .before .before .before .before .before .before .before .before in
     let a = l .before .before .before .before .before .before .args in
     c .rule-domain .result ≡ rulingOf (a .t1) (now (a .offers)) (l .loop .j + 1))
 domain c =
-    let l = c .before .before .before .before .before .before .before .before in
+    let l = c .before .before .before .before .before .before .before .before .before in
     let a = l .before .before .before .before .before .before .args in
     c .rule-domain .ensures ∙ domain-ruled (a .t1) (now (a .offers)) (a .blocked) (l .loop .inv .1) (l .loop .j)
 
 loop-again : tie.Need-loop-again Inv-loop μ-loop
 loop-again c =
-    let l = c .before .before .before .before .before .before .before .before in
+    let l = c .before .before .before .before .before .before .before .before .before in
     let a = l .before .before .before .before .before .before .args in
     let v = l .loop .verdicts in
     let j = l .loop .j in (
@@ -124,9 +73,6 @@ loop-again c =
       length-set v (j + 1) (c .rule-domain .result) ∙ l .loop .inv .2,
       filled-more (rulingOf (a .t1) (now (a .offers))) v (j + 1) (c .rule-domain .result) (omega arith) (l .loop .inv .3) (domain c),
     )
-
-same-length : tie.Need-same-length Inv-loop μ-loop
-same-length c = search needs
 
 returns : tie.Need-returns Inv-loop μ-loop
 returns c =
@@ -146,23 +92,25 @@ rule-spec =
     rule-best-requires
     slice-write-verdicts
     loop-holds
-    add-rule-domain
-    shared-slice-read-rule-domain
-    mul-rule-domain
-    element-copy-out-rule-domain
-    mul-rule-domain-2
-    element-copy-out-rule-domain-2
-    mul-rule-domain-3
-    element-copy-out-rule-domain-3
-    mul-rule-domain-4
-    element-copy-out-rule-domain-4
-    mul-rule-domain-5
-    element-copy-out-rule-domain-5
-    rule-domain-requires
-    add-verdicts
-    slice-write-verdicts-2
-    add-j
-    loop-less
+    (λ c. search needs)
+    (λ c. search needs)
+    (λ c. search needs)
+    (λ c. search needs)
+    (λ c. search needs)
+    (λ c. search needs)
+    (λ c. search needs)
+    (λ c. search needs)
+    (λ c. search needs)
+    (λ c. search needs)
+    (λ c. search needs)
+    (λ c. search needs)
+    (λ c. search needs)
+    (λ c. search needs)
+    (λ c κs. search needs)
+    (λ c. search needs)
+    (λ c. search needs)
+    (λ c. search needs)
+    (λ c. search needs)
     loop-again
-    same-length
+    (λ c. search needs)
     returns)

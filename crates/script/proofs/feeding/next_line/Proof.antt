@@ -35,22 +35,40 @@ free c = search needs
 few : (c : tie.Start) → c .args .r .state .closed < 4294967296
 few c = search needs
 
--- the facts of the waiting plan lie deeper in the run's than `search` goes by itself
+-- the facts of the waiting plan, and of the lists about it, lie deeper in the run's than `search` goes by itself
 waiting : (c : tie.Start) → Sized (c .args .r .state .waiting .plan)
 waiting c =
     let deep = c .good .0 .1 .1 .0 .1 .1 .1 .1 .1 .1 .1 .1 .1 .1 .1 .1 .1 .1 .1 .0 in
-    record { planned = search needs; reservation = search needs; reclaimcap = search needs; writebackcap = search needs }
+    record {
+      planned = search needs;
+      reservation = search needs;
+      reclaimcap = search needs;
+      writebackcap = search needs;
+      writebackreservation = search needs;
+    }
+
+last-lists : (c : tie.Start) → (length (c .args .r .state .writebacks) ≡ 16) × (length (c .args .r .state .writebackclaim) ≡ 16)
+last-lists c =
+    let deep = c .good .0 .1 .1 .0 .1 .1 .1 .1 .1 .1 .1 .1 .1 .1 .1 .1 .1 in
+    (search needs, search needs)
 
 shape : (c : tie.Start) → Shaped (c .args .r .state)
 shape c =
     record {
-      plan = record { planned = search needs; reservation = search needs; reclaimcap = search needs; writebackcap = search needs };
+      plan = record {
+        planned = search needs;
+        reservation = search needs;
+        reclaimcap = search needs;
+        writebackcap = search needs;
+        writebackreservation = search needs;
+      };
       claim = search needs;
       reserved = search needs;
       reclaimed = search needs;
       yielded = search needs;
-      writebacks = search needs;
+      writebacks = last-lists c .0;
       waiting = waiting c;
+      writebackclaim = last-lists c .1;
     }
 
 sub-carry-out : tie.Need-sub-carry-out

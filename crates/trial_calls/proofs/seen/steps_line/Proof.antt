@@ -6,10 +6,10 @@ use Rattle.trial_calls.proofs.seen.steps_line.Statement.{statement}
 use Rattle.trial_calls.proofs.seen.steps_line.Tie as tie
 
 abbrev Inv-loop : tie.InvT-loop
-Inv-loop seen k₀ t5 t6 k = k ≤ 70
+Inv-loop seen k₀ t5 t6 k = k ≤ 86
 
 abbrev μ-loop : tie.MeasureT-loop
-μ-loop seen k₀ t5 t6 k = 70 - k
+μ-loop seen k₀ t5 t6 k = 86 - k
 
 pub steps-line-spec : {M : Type 1} → statement M
 steps-line-spec =

@@ -1,4 +1,4 @@
--- `trial_plans::seen::lines` prints fourteen lines and ends.
+-- `trial_plans::seen::lines` prints nineteen lines and ends.
 -- Assumes nothing.
 use Prim.Native.Nat.{_≤_, _-_}
 use borrow.Author.Needs.{needs}
@@ -6,10 +6,10 @@ use Rattle.trial_plans.proofs.seen.lines.Statement.{statement}
 use Rattle.trial_plans.proofs.seen.lines.Tie as tie
 
 abbrev Inv-loop : tie.InvT-loop
-Inv-loop seen k₀ k = k ≤ 14
+Inv-loop seen from₀ name₀ from name = name ≤ 19
 
 abbrev μ-loop : tie.MeasureT-loop
-μ-loop seen k₀ k = 14 - k
+μ-loop seen from₀ name₀ from name = 19 - name
 
 pub lines-spec : {M : Type 1} → statement M
 lines-spec =
@@ -18,9 +18,8 @@ lines-spec =
     Inv-loop
     μ-loop
     (λ c. search needs)
-    (λ c. search needs)
     (λ c κs. search needs)
-    (λ c. search needs)
+    (λ c κs. search needs)
     (λ c κs. search needs)
     (λ c. search needs)
     (λ c. search needs)

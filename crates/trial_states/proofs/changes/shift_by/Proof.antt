@@ -8,10 +8,10 @@ use Rattle.trial_states.proofs.changes.shift_by.Statement.{statement}
 use Rattle.trial_states.proofs.changes.shift_by.Tie as tie
 
 abbrev Inv-loop : tie.InvT-loop
-Inv-loop words₀ domain by rows from column₀ words column = (column ≤ 14) × (length words ≡ length words₀)
+Inv-loop words₀ domain by rows from column₀ words column = (column ≤ 16) × (length words ≡ length words₀)
 
 abbrev μ-loop : tie.MeasureT-loop
-μ-loop words₀ domain by rows from column₀ words column = 14 - column
+μ-loop words₀ domain by rows from column₀ words column = 16 - column
 
 pub shift-by-spec : {M : Type 1} → statement M
 shift-by-spec =
