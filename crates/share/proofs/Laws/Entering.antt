@@ -2,7 +2,7 @@
 -- Assumes nothing.
 use mathlib.Core.Path.{_≡_, refl, sym, ap, ap₂, subst, _∙_}
 use mathlib.Core.Logic.{_≢_}
-use mathlib.Core.Bool.{true, false, cond}
+use mathlib.Core.Bool.{Bool, true, false, cond}
 use mathlib.Core.List.{List}
 use mathlib.Core.Option.{none, some}
 use Prim.Native.Nat.{ℕ, _+_, _-_, _≤_, _<_}
@@ -32,7 +32,7 @@ use Rattle.regulator.proofs.Laws.Refusing.{yield-taken, hand-taken}
 use Rattle.regulator.proofs.Laws.Deciding.{decided-none, decided-best, decided-claim, decided-stock, decided-writeback, ended-open, ended-complete, slot-refused, slot-decided, slot-number, steps-told, shown-refused, shown-decided, yield-number, yield-refused, yield-given, hand-number, hand-refused, hand-given}
 use Rattle.regulator.proofs.Laws.Keeping.{Kept, Next, slot-next, yielding-keeps, handing-keeps, Start, next-start, begun-keeps}
 use Rattle.share.specs.Call.{Call, slot, yield, handIn, SizedCall}
-use Rattle.share.specs.Ledger.{refusedCall, decidedSlot, Page, Slot, Period, passing, slotEntry, enter}
+use Rattle.share.specs.Ledger.{refusedCall, decidedSlot, Page, Slot, Period, pass, writeback, passing, slotEntry, enter}
 use Rattle.share.specs.Run.{Made, lent, made, taken, fed}
 use Rattle.share.specs.Share.{PeriodShare, RefusedChangesNothing}
 use Rattle.share.proofs.Laws.Reserving.{Past, nothing, Tallied, pageOf, handedOf, periodOf, slotsWith, Safe, grant-safe, yield-safe, Whole, period-share}
@@ -62,7 +62,13 @@ module _ (s : State) (m : Past) (kept : Kept s) (tally : Tallied s (m .claimedwr
         tallied = record { long = tally .long; all = λ j h. rw (c, q) (tally .all j h) };
       }
 
-  -- the tests of the number of the domain at index j
+  -- what is entered of the domain at index j, and the tests of its number
+  abbrev entered-pass : ℕ → Bool → Page
+  entered-pass j onClaim = pass (pageOf s m) j onClaim (stepsOf s o)
+
+  abbrev entered-writeback : ℕ → Bool → Page
+  entered-writeback j onClaim = writeback (pageOf s m) j onClaim (stepsOf s o)
+
   module _ (j : ℕ) (h : j < 16) where
     not-idle : eqb (j + 1) 17 ≡ false
     not-idle = ne-eqb (j + 1) 17 (λ z. omega arith)
@@ -79,20 +85,20 @@ module _ (s : State) (m : Past) (kept : Kept s) (tally : Tallied s (m .claimedwr
   entry-granted n (to-best p) = into 0 _ (decided-best s o) (same 0 _ refl refl refl)
   entry-granted n (on-claim j h w c) =
       into (j + 1) _ (decided-claim s o j h w c)
-      (same (j + 1) _ (rw (not-idle j h, not-best j h, index j h, ne-eqb _ 2 w, lt-ltb 0 (nth (s .claim) j) c)) refl refl)
+      (same (j + 1) _ (rw (not-idle j h, not-best j h, index j h, ne-eqb _ 2 w) (ap (entered-pass j) (lt-ltb 0 (nth (s .claim) j) c))) refl refl)
   entry-granted n (on-stock j h w c r z b) =
       into (j + 1) _ (decided-stock s o j h w c)
-      (same (j + 1) _ (rw (not-idle j h, not-best j h, index j h, ne-eqb _ 2 w, le-ltb 0 (nth (s .claim) j) (omega arith))) refl refl)
+      (same (j + 1) _ (rw (not-idle j h, not-best j h, index j h, ne-eqb _ 2 w) (ap (entered-pass j) (le-ltb 0 (nth (s .claim) j) (omega arith)))) refl refl)
   entry-granted n (on-writeback j h w f false e b) =
       into (j + 1) _ (decided-writeback s o j h w false e)
-      (same (j + 1) _ (rw (not-idle j h, not-best j h, index j h, eq-eqb _ 2 w, e)) refl refl)
+      (same (j + 1) _ (rw (not-idle j h, not-best j h, index j h, eq-eqb _ 2 w) (ap (entered-writeback j) e)) refl refl)
   entry-granted n (on-writeback j h w f true e b) =
       let l = m .claimedwritebacks in
       into (j + 1) _ (decided-writeback s o j h w true e)
       (record {
         past = record { slots = slotsWith s m o; claimedwritebacks = raised l j 1 };
         slots = refl;
-        page = rw (not-idle j h, not-best j h, index j h, eq-eqb _ 2 w, e);
+        page = rw (not-idle j h, not-best j h, index j h, eq-eqb _ 2 w) (ap (entered-writeback j) e);
         tallied = record {
           long = raised-length l j 1 ∙ tally .long;
           all = λ i hi.
