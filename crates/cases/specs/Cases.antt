@@ -117,7 +117,7 @@ abbrev told : ℕ → ℕ → ℕ → ℕ → ℤ → ℕ → Shown
 told a b c idle loose steps = record { refused = 0; verdicts = three a b c; idle = idle; loose = loose; counts = none; steps = steps }
 
 -- a slot that completes a period of plan A: the verdicts, the counts and the steps; loose of the next period starts at 4 − 3, under
--- plan B at 3 − 2
+-- plan B at 3 − 2, under plan D at 6 − 5
 abbrev completes : ℕ → ℕ → ℕ → Counts → ℕ → Shown
 completes a b c counts steps = record { refused = 0; verdicts = three a b c; idle = 0; loose = pos 1; counts = some counts; steps = steps }
 
@@ -322,8 +322,8 @@ abbrev yieldsOf : ℕ → ℤ → Outcome
 yieldsOf n loose = answers 0 (yields n loose ∷ [])
 
 -- Point 6: a period of plan D with writebacks on claim, on neither, blocked and at the cap
-abbrev writebacks : List Call
-writebacks = offer 0 0 2 ∷ offer 1 2 0 ∷ offer 1 2 1 ∷ offer 1 2 0 ∷ offer 0 2 2 ∷ offer 1 1 1 ∷ []
+abbrev writingBack : List Call
+writingBack = offer 0 0 2 ∷ offer 1 2 0 ∷ offer 1 2 1 ∷ offer 1 2 0 ∷ offer 0 2 2 ∷ offer 1 1 1 ∷ []
 
 -- its counts: best effort 1, no pass and two writebacks of domain 1, two passes and a writeback of domain 2
 abbrev countsD : Counts
@@ -544,7 +544,7 @@ cases =
     -- "A writeback passes on writeback claim if there is any, otherwise only when not blocked, and never above W"; "Loose takes off both
     -- claims, and a domain waits on claim if it offers a kind of which it has claim left"
     ∷ record {
-      input = calls planD writebacks;
+      input = calls planD writingBack;
       outcome =
           answers 0
           (told 0 0 1 0 (pos 0) 2
@@ -557,7 +557,7 @@ cases =
     }
     -- "It uses no access claim, stock or reclaim cap"; the next period begins with both claims
     ∷ record {
-      input = through planD writebacks;
+      input = through planD writingBack;
       outcome =
           returns 0
           ((0, inD 1 0 3 (domains 2 2 0) (domains 0 0 0) (domains 0 1 0) 2 (domains 1 0 0))
