@@ -36,12 +36,12 @@ pub struct Walked {
     pub gathered: Gathered,
 }
 
-// Is an unlisted byte of a domain record not zero?
+// Is an unlisted byte of a domain record not zero, or the mark's byte above 1?
 fn any_unlisted(b: &[u8]) -> bool
     requires { ⌜ length (now b) ≡ 16 ⌝ }
     ensures { λ r. ⌜ r ≡ unlisted (now (b .entry)) ⌝ }
 {
-    b[3] != 0 || !records::all_zero(&b[12..16])
+    1 < b[3] || !records::all_zero(&b[12..16])
 }
 
 // The refusal that a record draws by itself, 6 to 9 or 11, or 0.

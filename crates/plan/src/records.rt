@@ -1,6 +1,7 @@
 // Records of a plan file: what the sixteen bytes of one hold, read and written.
 use crate::value::Domain;
 ghost use mathlib.Core.Path.{_≡_};
+ghost use mathlib.Core.Bool.{cond};
 ghost use Prim.Native.Nat.{_+_, _*_, _<_, _≤_};
 ghost use lib.ListN.{length};
 ghost use Rattle.plan.specs.Records.{u16At, zeros, recordAt, domainIn, headRecord, domainRecord};
@@ -54,6 +55,7 @@ pub(crate) fn domain_in(b: &[u8]) -> Domain
         reclaimcap: u16_at(b, 6),
         writebackcap: u16_at(b, 8),
         writebackreservation: u16_at(b, 10),
+        marked: b[3] == 1,
     }
 }
 
@@ -81,6 +83,13 @@ pub(crate) fn head_record(period: u16, first: u16) -> [u8; 16]
     ]
 }
 
+// The byte of a mark.
+fn mark_byte(marked: bool) -> u8
+    ensures { λ r. ⌜ r ≡ cond marked 1 0 ⌝ }
+{
+    if marked { 1 } else { 0 }
+}
+
 // The bytes of a domain's record.
 pub(crate) fn domain_record(next: u16, d: Domain) -> [u8; 16]
     ensures { λ r. ⌜ r ≡ domainRecord next d ⌝ }
@@ -89,7 +98,7 @@ pub(crate) fn domain_record(next: u16, d: Domain) -> [u8; 16]
         (next % 256) as u8,
         (next / 256 % 256) as u8,
         d.number,
-        0,
+        mark_byte(d.marked),
         (d.reservation % 256) as u8,
         (d.reservation / 256 % 256) as u8,
         (d.reclaimcap % 256) as u8,

@@ -7,7 +7,7 @@ ghost use Rattle.table.specs.Ranges.{someBelow, lowest};
 ghost use Rattle.plan.specs.Value.{outside, above, holdsAbsent, aboveCap, outOfRange, overCap, reserved, planRefusal, noDomains, withDomain, reserves};
 
 // A plan: the period, and of each domain number n at index n - 1 whether it is planned, its reservation Q, reclaim cap R,
-// writeback cap W and writeback reservation.
+// writeback cap W and writeback reservation, and whether it is marked to yield by forecast.
 pub struct Plan {
     pub period: u16,
     pub planned: [bool; 16],
@@ -15,6 +15,7 @@ pub struct Plan {
     pub reclaimcap: [u16; 16],
     pub writebackcap: [u16; 16],
     pub writebackreservation: [u16; 16],
+    pub marked: [bool; 16],
 }
 
 // A domain by itself, as a record of a plan file states it.
@@ -24,6 +25,7 @@ pub struct Domain {
     pub reclaimcap: u16,
     pub writebackcap: u16,
     pub writebackreservation: u16,
+    pub marked: bool,
 }
 
 // The number of a refusal and its place, both 0 where nothing is refused.
@@ -90,11 +92,11 @@ fn most_of(planned: bool, period: u16) -> u16
     if planned { period } else { 0 }
 }
 
-// Is the domain absent, and has a writeback reservation?
-fn holds_absent(planned: bool, reservation: u16) -> bool
-    ensures { λ r. ⌜ r ≡ holdsAbsent planned reservation ⌝ }
+// Is the domain absent, and has a writeback reservation or a mark?
+fn holds_absent(planned: bool, reservation: u16, marked: bool) -> bool
+    ensures { λ r. ⌜ r ≡ holdsAbsent planned reservation marked ⌝ }
 {
-    !planned && 0 < reservation
+    !planned && (0 < reservation || marked)
 }
 
 // Is the writeback reservation above the writeback cap?
@@ -117,7 +119,7 @@ fn fault_at(p: Plan, capped: bool, j: usize) -> bool
     if any_above(most, p.reservation[j], p.reclaimcap[j], p.writebackcap[j]) {
         return true;
     }
-    holds_absent(p.planned[j], p.writebackreservation[j])
+    holds_absent(p.planned[j], p.writebackreservation[j], p.marked[j])
 }
 
 // The lowest index of a domain with that fault, or 16 where there is none.
@@ -154,6 +156,7 @@ pub(crate) fn no_domains(period: u16) -> Plan
         reclaimcap: [0; 16],
         writebackcap: [0; 16],
         writebackreservation: [0; 16],
+        marked: [false; 16],
     }
 }
 
@@ -169,6 +172,7 @@ pub(crate) fn with_domain(p: Plan, d: Domain) -> Plan
     next.reclaimcap[at] = d.reclaimcap;
     next.writebackcap[at] = d.writebackcap;
     next.writebackreservation[at] = d.writebackreservation;
+    next.marked[at] = d.marked;
     next
 }
 

@@ -32,6 +32,7 @@ fn list_domains(p: Plan) -> Listed
         reclaimcap: 0,
         writebackcap: 0,
         writebackreservation: 0,
+        marked: false,
     };
     let mut domains = [none; 16];
     let mut count = 0;
@@ -45,6 +46,7 @@ fn list_domains(p: Plan) -> Listed
             reclaimcap: p.reclaimcap[j],
             writebackcap: p.writebackcap[j],
             writebackreservation: p.writebackreservation[j],
+            marked: p.marked[j],
         };
         count += 1;
     }

@@ -9,6 +9,7 @@ ghost use Rattle.regulator.specs.Refusals.{slotRefusal, yieldRefusal};
 ghost use Rattle.regulator.specs.Calls.{openPlan, oneSlot, slotOf, verdictsIn, yieldOf, handOf};
 use super::close;
 use super::close::Answer;
+use super::forecast;
 use super::grant;
 use super::refusals;
 use super::state;
@@ -44,14 +45,14 @@ pub fn open(p: Plan) -> Opening
 {
     let c = plan::check(p);
     if c.refused == 0 {
-        let s = state::begin(p, 0, 0);
+        let s = state::begin(p, 0, 0, forecast::no_estimates());
         Opening {
             refused: 0,
             place: 0,
             state: s,
         }
     } else {
-        let s = state::begin(state::no_plan(), 0, 0);
+        let s = state::begin(state::no_plan(), 0, 0, forecast::no_estimates());
         Opening {
             refused: c.refused,
             place: c.place,

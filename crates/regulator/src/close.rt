@@ -1,7 +1,10 @@
 // The end of a slot: a period's counts, and the next period.
 ghost use mathlib.Core.Path.{_≡_};
 ghost use Prim.Native.Nat.{_<_};
-ghost use Rattle.regulator.specs.Close.{countsOf, withoutCounts, nextPlan, ended};
+ghost use Rattle.table.specs.Sums.{sum};
+ghost use Rattle.regulator.specs.Close.{countsOf, withoutCounts, nextPlan, nextTracked, ended};
+use super::forecast;
+use super::forecast::Tracked;
 use super::state;
 use super::state::State;
 use plan::Plan;
@@ -76,15 +79,32 @@ fn next_plan(s: State) -> Plan
     if w.given { w.plan } else { s.plan }
 }
 
+// The estimates of the next period: none under a new plan.
+fn next_tracked(s: State) -> [Tracked; 16]
+    ensures { λ r. ⌜ r ≡ nextTracked s ⌝ }
+{
+    let w = s.waiting;
+    if w.given {
+        return forecast::no_estimates();
+    }
+    let p = s.plan;
+    let marked = p.marked;
+    let tracked = s.tracked;
+    let reserved = s.reserved;
+    let reclaimed = s.reclaimed;
+    forecast::close_all(marked, tracked, reserved, reclaimed)
+}
+
 // The answer of a decided slot.
 pub(crate) fn end(s: State, steps: u32) -> Answer
     requires { ⌜ s .closed < 4294967295 ⌝ }
+    requires { ⌜ sum (nextPlan s .reservation) < 65536 ⌝ }
     ensures { λ r. ⌜ r ≡ ended s steps ⌝ }
 {
     let p = s.plan;
     if s.decided == p.period {
         let all = counts_of(s);
-        let next = state::begin(next_plan(s), s.closed + 1, s.turn);
+        let next = state::begin(next_plan(s), s.closed + 1, s.turn, next_tracked(s));
         Answer {
             refused: 0,
             state: next,

@@ -10,6 +10,7 @@
 // from an opened plan does: they require it, and do not check it again.
 mod calls;
 mod close;
+mod forecast;
 mod grant;
 mod numbers;
 mod refusals;
@@ -29,5 +30,7 @@ pub use calls::slot;
 pub use calls::yield_claim;
 pub use close::Answer;
 pub use close::Counts;
+pub use forecast::Estimate;
+pub use forecast::Tracked;
 pub use state::State;
 pub use state::Waiting;

@@ -1,11 +1,15 @@
 // The state of a period: where it begins, whether it adds up, what a yield moves, and the plan that waits.
 ghost use mathlib.Core.Path.{_≡_};
-ghost use mathlib.Core.Bool.{_&&_};
+ghost use mathlib.Core.Bool.{_&&_, _||_};
 ghost use Prim.Native.Nat.{_+_, _-_, _<_, _≤_};
-ghost use Rattle.table.specs.Sums.{nth};
+ghost use Rattle.table.specs.Sums.{nth, sum};
 ghost use Rattle.table.specs.Ranges.{everyBelow};
 ghost use Rattle.plan.specs.Value.{noDomains};
-ghost use Rattle.regulator.specs.State.{begun, numbersAddUp, domainAddsUp, sumsAddUp, stepsAddUp, waitingAddsUp, addsUp, yielding, handing};
+ghost use Rattle.regulator.specs.Forecast.{isUnknown};
+ghost use Rattle.regulator.specs.State.{begun, numbersAddUp, domainAddsUp, sumsAddUp, stepsAddUp, waitingAddsUp, estimateAddsUp, addsUp, yielding, handing};
+use super::forecast;
+use super::forecast::Estimate;
+use super::forecast::Tracked;
 use super::numbers;
 use plan::Plan;
 
@@ -17,7 +21,7 @@ pub struct Waiting {
 
 // The state of a period. Index n - 1 of the arrays is domain number n; decided is the number of slots decided, closed of
 // periods closed, best of best-effort passes, and steps of the numbers asked and passed by in the period; plan is the one in
-// force, claim is of accesses, and writebackclaim of writebacks.
+// force, claim is of accesses, and writebackclaim of writebacks; tracked holds the estimates.
 pub struct State {
     pub plan: Plan,
     pub decided: u16,
@@ -34,6 +38,7 @@ pub struct State {
     pub steps: u32,
     pub waiting: Waiting,
     pub writebackclaim: [u16; 16],
+    pub tracked: [Tracked; 16],
 }
 
 // The plan of all zeros.
@@ -47,14 +52,19 @@ pub(crate) fn no_plan() -> Plan
         reclaimcap: [0; 16],
         writebackcap: [0; 16],
         writebackreservation: [0; 16],
+        marked: [false; 16],
     }
 }
 
 // A period begins, and no plan waits.
-pub(crate) fn begin(p: Plan, closed: u32, turn: usize) -> State
-    ensures { λ r. ⌜ r ≡ begun p closed turn ⌝ }
+pub(crate) fn begin(p: Plan, closed: u32, turn: usize, tracked: [Tracked; 16]) -> State
+    requires { ⌜ sum (p .reservation) < 65536 ⌝ }
+    ensures { λ r. ⌜ r ≡ begun p closed turn tracked ⌝ }
 {
-    let claim = p.reservation;
+    let q = p.reservation;
+    let claim = forecast::start_claims(q, tracked);
+    let yielded = forecast::left_over(q, claim);
+    let stock = table::total(yielded) as u16;
     let writebackclaim = p.writebackreservation;
     let none = no_plan();
     State {
@@ -63,12 +73,12 @@ pub(crate) fn begin(p: Plan, closed: u32, turn: usize) -> State
         closed,
         idle: 0,
         best: 0,
-        stock: 0,
+        stock,
         turn,
         claim,
         reserved: [0; 16],
         reclaimed: [0; 16],
-        yielded: [0; 16],
+        yielded,
         writebacks: [0; 16],
         steps: 0,
         waiting: Waiting {
@@ -76,6 +86,7 @@ pub(crate) fn begin(p: Plan, closed: u32, turn: usize) -> State
             plan: none,
         },
         writebackclaim,
+        tracked,
     }
 }
 
@@ -164,10 +175,37 @@ fn waiting_adds_up(w: Waiting) -> bool
     }
 }
 
-fn all_seven(a: bool, b: bool, c: bool, d: bool, e: bool, f: bool, g: bool) -> bool
-    ensures { λ r. ⌜ r ≡ (a && (b && (c && (d && (e && (f && g)))))) ⌝ }
+// Does the estimate of one domain add up: is it marked, or has none?
+fn estimate_adds_up(t: Tracked, marked: bool) -> bool
+    ensures { λ b. ⌜ b ≡ (marked || isUnknown (t .estimate)) ⌝ }
 {
-    a && (b && (c && (d && (e && (f && g)))))
+    if marked {
+        return true;
+    }
+    let e = t.estimate;
+    match e {
+        Estimate::Unknown => true,
+        Estimate::Known(z) => false,
+    }
+}
+
+fn estimates_add_up(marked: [bool; 16], tracked: [Tracked; 16]) -> bool
+    ensures { λ b. ⌜ b ≡ everyBelow (estimateAddsUp marked tracked) 16 ⌝ }
+{
+    let mut j = 0;
+    while j < 16 {
+        if estimate_adds_up(tracked[j], marked[j]) {} else {
+            return false;
+        }
+        j += 1;
+    }
+    true
+}
+
+fn all_eight(a: bool, b: bool, c: bool, d: bool, e: bool, f: bool, g: bool, h: bool) -> bool
+    ensures { λ r. ⌜ r ≡ (a && (b && (c && (d && (e && (f && (g && h))))))) ⌝ }
+{
+    a && (b && (c && (d && (e && (f && (g && h))))))
 }
 
 // Does a state add up?
@@ -194,7 +232,10 @@ pub(crate) fn adds_up(s: State) -> bool
     let steps = steps_add_up(s.steps, s.idle, s.decided);
     let w = s.waiting;
     let waiting = waiting_adds_up(w);
-    all_seven(
+    let marked = p.marked;
+    let tracked = s.tracked;
+    let estimates = estimates_add_up(marked, tracked);
+    all_eight(
         refusal.refused == 0,
         s.decided < p.period,
         s.turn <= 16,
@@ -202,6 +243,7 @@ pub(crate) fn adds_up(s: State) -> bool
         sums,
         steps,
         waiting,
+        estimates,
     )
 }
 

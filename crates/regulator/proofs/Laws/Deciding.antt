@@ -17,7 +17,7 @@ use Rattle.plan.specs.declared.value.Refusal.{Refusal}
 use Rattle.regulator.specs.State.{yielding, handing}
 use Rattle.regulator.specs.Turn.{granted, stepsOf, verdicts}
 use Rattle.regulator.specs.Grant.{onClaim, onStock, onNeither, onWriteback, domainGrant, grant, onward, decidedOf}
-use Rattle.regulator.specs.Close.{withoutCounts, withCounts, ended}
+use Rattle.regulator.specs.Close.{nextPlan, withoutCounts, withCounts, ended}
 use Rattle.regulator.specs.Refusals.{slotRefusal, yieldRefusal, handRefusal}
 use Rattle.regulator.specs.Calls.{oneSlot, slotOf, verdictsIn, yieldOf, handOf}
 use Rattle.regulator.specs.declared.state.State.{State}
@@ -84,9 +84,9 @@ module _ (s : State) (o : List ℕ) where
     decided-writeback w claimed e =
         ap (to (j + 1)) (grant-domain s o j h ∙ ap (domainGrant s j) (eq-eqb _ 2 w) ∙ grant-writeback s j claimed e)
 
--- a grant leaves T, the closed periods and the sum of steps
+-- a grant leaves T, the closed periods, the sum of steps, and the plan of the period after
 pub grant-time : (s : State) (o : List ℕ) (n : ℕ)
-    → (grant s o n .decided ≡ s .decided) × (grant s o n .closed ≡ s .closed) × (grant s o n .steps ≡ s .steps)
+    → (grant s o n .decided ≡ s .decided) × (grant s o n .closed ≡ s .closed) × (grant s o n .steps ≡ s .steps) × (nextPlan (grant s o n) ≡ nextPlan s)
 unfolding grant domainGrant
 grant-time s o n = go (eqb n 17) (eqb n 0) (eqb (nth o n) 2) (ltb 0 (nth (s .claim) (n - 1)))
   where
@@ -99,11 +99,12 @@ grant-time s o n = go (eqb n 17) (eqb n 0) (eqb (nth o n) 2) (ltb 0 (nth (s .cla
 
     go : (a b w c : Bool)
         → (after-grant a b w c .decided ≡ s .decided) × (after-grant a b w c .closed ≡ s .closed) × (after-grant a b w c .steps ≡ s .steps)
-    go true b w c = (refl, refl, refl)
-    go false true w c = (refl, refl, refl)
-    go false false true c = (refl, refl, refl)
-    go false false false true = (refl, refl, refl)
-    go false false false false = (refl, refl, refl)
+        × (nextPlan (after-grant a b w c) ≡ nextPlan s)
+    go true b w c = (refl, refl, refl, refl)
+    go false true w c = (refl, refl, refl, refl)
+    go false false true c = (refl, refl, refl, refl)
+    go false false false true = (refl, refl, refl, refl)
+    go false false false false = (refl, refl, refl, refl)
 
 -- the end of a slot
 module _ (s : State) (steps : ℕ) where

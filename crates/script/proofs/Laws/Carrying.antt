@@ -9,12 +9,12 @@ use native.Mathlib.Decide.{ℕ-discrete}
 use native.Mathlib.Omega.{arith}
 use lib.ListN.{length, drop}
 use Rattle.table.specs.Sums.{sum}
-use Rattle.table.proofs.Elements.{sum-zeros, raised-sum}
+use Rattle.table.proofs.Elements.{raised-sum}
 use Rattle.table.proofs.Tables.{miss, hit}
 use Rattle.regulator.specs.State.{Shaped, addsUp}
 use Rattle.regulator.specs.Turn.{granted, stepsOf}
 use Rattle.regulator.specs.Grant.{decidedOf}
-use Rattle.regulator.specs.Close.{ended, countsOf}
+use Rattle.regulator.specs.Close.{nextPeriod, ended, countsOf}
 use Rattle.regulator.specs.Refusals.{slotRefusal, yieldRefusal}
 use Rattle.regulator.specs.Calls.{slotOf, yieldOf}
 use Rattle.regulator.specs.declared.state.State.{State}
@@ -79,8 +79,7 @@ module _ (s : State) (shape : Shaped s) (sound : addsUp s ≡ true) where
 
       go : Dec (t .decided ≡ t .plan .period) → linesBefore s + 1 ≤ linesBefore (ended t k .state)
       go (yes q) =
-          let e : linesBefore (ended t k .state) ≡ 8192 * (t .closed + 1) + 0 + 0 =
-          ap (λ (x : Answer). linesBefore (x .state)) (ended-complete t k q) ∙ ap (λ (y : ℕ). 8192 * (t .closed + 1) + 0 + y) (sum-zeros 16) in
+          let e : linesBefore (ended t k .state) ≡ linesBefore (nextPeriod t) = ap (λ (x : Answer). linesBefore (x .state)) (ended-complete t k q) in
           omega (arith, e, n .closed, n .decided, q, ap (λ (p : Plan). p .period) (n .plan), a .balanced .plan .small, yielded-fit s (a .balanced) (shape .yielded) (shape .plan .reservation))
       go (no q) =
           let e : linesBefore (ended t k .state) ≡ linesBefore t = ap (λ (x : Answer). linesBefore (x .state)) (ended-open t k q) in

@@ -17,10 +17,13 @@ use Rattle.table.proofs.Elements.{repeat-at, raised-length, moved}
 use Rattle.plan.specs.Value.{Sized, reserved, planRefusal}
 use Rattle.plan.specs.declared.value.Plan.{Plan}
 use Rattle.plan.proofs.Laws.Values.{accepted}
+use Rattle.regulator.specs.Forecast.{noEstimates}
+use Rattle.regulator.specs.declared.forecast.Tracked.{Tracked}
+use Rattle.regulator.proofs.Laws.Forecasting.{claims-sum}
 use Rattle.regulator.specs.State.{begun, yielding, handing}
 use Rattle.regulator.specs.Turn.{granted, stepsOf, verdicts}
 use Rattle.regulator.specs.Grant.{decidedOf}
-use Rattle.regulator.specs.Close.{countsOf, nextPlan, nextPeriod, ended}
+use Rattle.regulator.specs.Close.{countsOf, nextPlan, nextTracked, nextPeriod, ended}
 use Rattle.regulator.specs.Refusals.{slotRefusal, yieldRefusal, handRefusal}
 use Rattle.regulator.specs.Calls.{slotOf}
 use Rattle.regulator.specs.declared.state.State.{State}
@@ -30,7 +33,7 @@ use Rattle.regulator.specs.declared.calls.Handing.{Handing}
 use Rattle.regulator.proofs.Laws.Ruling.{Granted, to-none, to-best, on-claim, on-stock, on-writeback, granted-to, one-granted}
 use Rattle.regulator.proofs.Laws.Refusing.{yield-taken, hand-taken}
 use Rattle.regulator.proofs.Laws.Deciding.{decided-none, decided-best, decided-claim, decided-stock, decided-writeback, ended-open, ended-complete, slot-refused, slot-decided, slot-number, steps-told, shown-refused, shown-decided, yield-number, yield-refused, yield-given, hand-number, hand-refused, hand-given}
-use Rattle.regulator.proofs.Laws.Keeping.{Kept, Next, slot-next, yielding-keeps, handing-keeps, Start, next-start, begun-keeps}
+use Rattle.regulator.proofs.Laws.Keeping.{Kept, Next, slot-next, yielding-keeps, handing-keeps, Start, next-start, begun-keeps, open-start}
 use Rattle.share.specs.Call.{Call, slot, yield, handIn, SizedCall}
 use Rattle.share.specs.Ledger.{refusedCall, decidedSlot, Page, Slot, Period, pass, writeback, passing, slotEntry, enter}
 use Rattle.share.specs.Run.{Made, lent, made, taken, fed}
@@ -112,24 +115,24 @@ pub record Ready (s : State) (m : Past) : Type 0 where
   pub whole : Whole s m
   pub below : s .decided < s .plan .period
 
-pub begun-ready : (p : Plan) → Start p → (n t : ℕ) → t ≤ 16 → Ready (begun p n t) nothing
+pub begun-ready : (p : Plan) (l : List Tracked) → Start p l → (n t : ℕ) → t ≤ 16 → Ready (begun p n t l) nothing
 unfolding reserved
-begun-ready p x n t h =
+begun-ready p l x n t h =
     let a = accepted p (x .taken) in
     record {
       whole = record {
-        kept = begun-keeps p x n t h;
-        safe = λ j hj k c. omega (arith, a .sum);
+        kept = begun-keeps p l x n t h;
+        safe = λ j hj k c. omega (arith, a .sum, claims-sum (p .reservation) l (x .sized .reservation));
         tallied = record { long = refl; all = λ j hj. omega (arith, repeat-at {A = ℕ} 16 j 0) };
       };
       below = a .one;
     }
 
-pub open-ready : (p : Plan) → Sized p → planRefusal p .refused ≡ 0 → Ready (begun p 0 0) nothing
-open-ready p z e = begun-ready p (record { sized = z; taken = e }) 0 0 (omega arith)
+pub open-ready : (p : Plan) → Sized p → planRefusal p .refused ≡ 0 → Ready (begun p 0 0 noEstimates) nothing
+open-ready p z e = begun-ready p noEstimates (open-start p z e) 0 0 (omega arith)
 
 pub next-ready : (t : State) → Kept t → Ready (nextPeriod t) nothing
-next-ready t k = begun-ready (nextPlan t) (next-start t k) (t .closed + 1) (t .turn) (k .balanced .turn)
+next-ready t k = begun-ready (nextPlan t) (nextTracked t) (next-start t k) (t .closed + 1) (t .turn) (k .balanced .turn)
 
 -- A call was made on s in the midst of a period: it leaves the period open, or it completes it.
 pub data Step (s : State) (m : Past) (c : Made) : Type 0 where
@@ -221,7 +224,7 @@ module _ (s : State) (m : Past) (r : Ready s m) where
         ap (enter (periodOf s m))
         (fed-taken (made s (slot o b)) (slot-number s o (length b) ∙ e)
         ∙ ap₂ (decidedSlot o b) (shown-decided s o b e) (steps-told s o (length b) e))
-        ∙ (λ i. record { plan = sym (after-grant .plan) i; page = entered i; slots = sym (entry .slots) i; handed = handedOf (sym (after-grant .waiting) i) })
+        ∙ (λ i. record { plan = sym (after-grant .plan) i; page = entered i; slots = sym (entry .slots) i; handed = handedOf (sym (after-grant .waiting) i); tracked = sym (after-grant .tracked) i })
       where
         entered : slotEntry (pageOf s m) o (passing (verdicts s o)) (stepsOf s o) ≡ pageOf next (entry .past)
         entered = ap (λ (n : ℕ). slotEntry (pageOf s m) o n (stepsOf s o)) (one-granted s o (kept .balanced .turn)) ∙ entry .page

@@ -29,24 +29,24 @@ test c =
 -- 9, with its first part known
 known : (c : tie.After-any-above)
     → (let a = c .before .before .before .before .before .before .before .args in
-    (c .any-above .result || holdsAbsent (getD (a .t1 .planned) (a .j) false) (getD (a .t1 .writebackreservation) (a .j) 0)) ≡ outOfRange (a .t1) (a .j))
+    (c .any-above .result || holdsAbsent (getD (a .t1 .planned) (a .j) false) (getD (a .t1 .writebackreservation) (a .j) 0) (getD (a .t1 .marked) (a .j) false)) ≡ outOfRange (a .t1) (a .j))
 unfolding outOfRange
 known c =
     let a = c .before .before .before .before .before .before .before .args in
-    ap (λ (b : Bool). b || holdsAbsent (getD (a .t1 .planned) (a .j) false) (getD (a .t1 .writebackreservation) (a .j) 0)) (test c)
+    ap (λ (b : Bool). b || holdsAbsent (getD (a .t1 .planned) (a .j) false) (getD (a .t1 .writebackreservation) (a .j) 0) (getD (a .t1 .marked) (a .j) false)) (test c)
 
 returns-2 : tie.Need-returns-2
 returns-2 c =
     let a = c .before .before .before .before .before .before .before .before .args in
-    sym (ap (λ (b : Bool). b || holdsAbsent (getD (a .t1 .planned) (a .j) false) (getD (a .t1 .writebackreservation) (a .j) 0)) (c .if2 .taken))
+    sym (ap (λ (b : Bool). b || holdsAbsent (getD (a .t1 .planned) (a .j) false) (getD (a .t1 .writebackreservation) (a .j) 0) (getD (a .t1 .marked) (a .j) false)) (c .if2 .taken))
     ∙ known (c .before) ∙ sym (miss _ _ _ (c .before .before .before .before .before .before .before .if1 .left))
 
 returns-3 : tie.Need-returns-3
 returns-3 c =
-    let e = c .before .before .before in
+    let e = c .before .before .before .before in
     let a = e .before .before .before .before .before .before .before .before .args in
     c .holds-absent .ensures
-    ∙ sym (ap (λ (b : Bool). b || holdsAbsent (getD (a .t1 .planned) (a .j) false) (getD (a .t1 .writebackreservation) (a .j) 0)) (e .if2 .left))
+    ∙ sym (ap (λ (b : Bool). b || holdsAbsent (getD (a .t1 .planned) (a .j) false) (getD (a .t1 .writebackreservation) (a .j) 0) (getD (a .t1 .marked) (a .j) false)) (e .if2 .left))
     ∙ known (e .before) ∙ sym (miss _ _ _ (e .before .before .before .before .before .before .before .if1 .left))
 
 pub fault-at-spec : {M : Type 1} → statement M
@@ -69,6 +69,7 @@ fault-at-spec =
     (λ c. search needs)
     (λ c κs. search needs)
     returns-2
+    (λ c. search needs)
     (λ c. search needs)
     (λ c. search needs)
     (λ c. search needs)

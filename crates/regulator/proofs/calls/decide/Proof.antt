@@ -5,11 +5,13 @@ use denote.Ref.{now}
 use Prim.Native.Nat.{ℕ, _≤_}
 use native.Mathlib.Omega.{arith}
 use lib.ListN.{length}
+use Rattle.table.specs.Sums.{sum}
+use Rattle.plan.specs.declared.value.Plan.{Plan}
 use Rattle.regulator.specs.Grant.{grant, onward}
-use Rattle.regulator.specs.Close.{ended}
+use Rattle.regulator.specs.Close.{nextPlan, ended}
 use Rattle.regulator.specs.Calls.{oneSlot}
 use Rattle.regulator.specs.declared.state.State.{State}
-use Rattle.regulator.proofs.Laws.Adding.{Adds, adds}
+use Rattle.regulator.proofs.Laws.Adding.{Adds, adds, next-fits}
 use Rattle.regulator.proofs.Laws.Refusing.{SlotTaken, slot-taken}
 use Rattle.regulator.proofs.Laws.Ruling.{Granted, granted-most, steps-most, granted-to, stock-there}
 use Rattle.regulator.proofs.Laws.Deciding.{grant-time}
@@ -66,10 +68,13 @@ end-requires c κs =
     let g = c .before in
     let t = g .before .before .before in
     let a = t .before .before .before .before in
-    let same = grant-time (a .args .s) (now (a .args .offers)) (t .tell-verdicts .result .number) .1 in
+    let same = grant-time (a .args .s) (now (a .args .offers)) (t .tell-verdicts .result .number) in
     let e = ap (λ (u : State). u .closed) (c .go-on .ensures) in
     let f = ap (λ (u : State). u .closed) (g .grant-number .ensures) in
-    omega (arith, same, e, f, taken a .unfilled, full a)
+    let next = ap nextPlan (c .go-on .ensures) ∙ ap nextPlan (g .grant-number .ensures) ∙ same .3 in (
+      omega (arith, same .1, e, f, taken a .unfilled, full a),
+      omega (arith, ap (λ (p : Plan). sum (p .reservation)) next, next-fits (a .args .s) (sound a .balanced)),
+    )
 
 same-length : tie.Need-same-length
 same-length c = search needs

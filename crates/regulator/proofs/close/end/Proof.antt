@@ -15,8 +15,13 @@ next-plan-requires c κs = search needs
 add-begin : tie.Need-add-begin
 add-begin c = search needs
 
+next-tracked-requires : tie.Need-next-tracked-requires
+next-tracked-requires c κs = search needs
+
 begin-requires : tie.Need-begin-requires
-begin-requires c κs = search needs
+begin-requires c κs =
+    let n = c .before .before in
+    rw (n .next-plan .ensures) (n .before .before .before .before .before .before .pre .1)
 
 without-counts-requires : tie.Need-without-counts-requires
 without-counts-requires c κs = search needs
@@ -24,8 +29,14 @@ without-counts-requires c κs = search needs
 returns : tie.Need-returns
 unfolding ended
 returns c =
-    let n = c .before .before in
-    rw (eq-eqb _ _ (n .before .before .if1 .taken), c .begin .ensures, n .next-plan .ensures, n .before .counts-of .ensures)
+    let n = c .before .before .before in
+    rw (
+      eq-eqb _ _ (n .before .before .if1 .taken),
+      c .begin .ensures,
+      c .before .next-tracked .ensures,
+      n .next-plan .ensures,
+      n .before .counts-of .ensures,
+    )
 
 returns-2 : tie.Need-returns-2
 unfolding ended
@@ -38,6 +49,7 @@ end-spec =
     counts-of-requires
     next-plan-requires
     add-begin
+    next-tracked-requires
     begin-requires
     without-counts-requires
     returns

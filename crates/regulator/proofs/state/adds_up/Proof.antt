@@ -1,4 +1,4 @@
--- `regulator::state::adds_up` meets its contract: what its callees tell, put into the seven tests.
+-- `regulator::state::adds_up` meets its contract: what its callees tell, put into the eight tests.
 -- Assumes nothing.
 use Rattle.regulator.specs.State.{addsUp}
 use borrow.Author.Needs.{needs}
@@ -32,13 +32,17 @@ steps-add-up-requires c κs = search needs
 waiting-adds-up-requires : tie.Need-waiting-adds-up-requires
 waiting-adds-up-requires c κs = search needs
 
-all-seven-requires : tie.Need-all-seven-requires
-all-seven-requires c κs = search needs
+estimates-add-up-requires : tie.Need-estimates-add-up-requires
+estimates-add-up-requires c κs = search needs
+
+all-eight-requires : tie.Need-all-eight-requires
+all-eight-requires c κs = search needs
 
 returns : tie.Need-returns
 unfolding addsUp
 returns c =
-    let waiting = c .before .before .before .before .before in
+    let estimates = c .before .before .before .before .before in
+    let waiting = estimates .before .before .before in
     let steps = waiting .before .before in
     let b = steps .before in
     let d = b .before .before .before .before .before in
@@ -56,7 +60,8 @@ returns c =
       total4,
       steps .steps-add-up .ensures,
       waiting .waiting-adds-up .ensures,
-    ) at (c .all-seven .ensures)
+      estimates .estimates-add-up .ensures,
+    ) at (c .all-eight .ensures)
 
 pub adds-up-spec : {M : Type 1} → statement M
 adds-up-spec =
@@ -71,5 +76,6 @@ adds-up-spec =
     sums-add-up-requires
     steps-add-up-requires
     waiting-adds-up-requires
-    all-seven-requires
+    estimates-add-up-requires
+    all-eight-requires
     returns)

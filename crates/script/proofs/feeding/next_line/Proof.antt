@@ -1,11 +1,11 @@
 -- `script::feeding::next_line` meets its contract.
 -- Assumes nothing.
-use mathlib.Core.Path.{_≡_}
+use mathlib.Core.Path.{_≡_, sym, _∙_}
 use mathlib.Core.Bool.{false}
 use denote.Ref.{now}
 use Prim.Native.Nat.{_+_, _<_}
 use native.Mathlib.Omega.{arith}
-use lib.ListN.{length}
+use lib.ListN.{length, length-map}
 use Rattle.plan.specs.Value.{Sized}
 use Rattle.regulator.specs.State.{Shaped}
 use Rattle.script.specs.Line.{before}
@@ -39,18 +39,25 @@ few c = search needs
 waiting : (c : tie.Start) → Sized (c .args .r .state .waiting .plan)
 waiting c =
     let deep = c .good .0 .1 .1 .0 .1 .1 .1 .1 .1 .1 .1 .1 .1 .1 .1 .1 .1 .1 .1 .0 in
+    let last = deep .1 .1 .1 .0 .1 .1 .1 .1 .1 .1 in
     record {
       planned = search needs;
       reservation = search needs;
       reclaimcap = search needs;
       writebackcap = search needs;
       writebackreservation = search needs;
+      marked = search needs;
     }
 
-last-lists : (c : tie.Start) → (length (c .args .r .state .writebacks) ≡ 16) × (length (c .args .r .state .writebackclaim) ≡ 16)
+last-lists : (c : tie.Start)
+    → (let s = c .args .r .state in (length (s .yielded) ≡ 16) × (length (s .writebacks) ≡ 16) × (length (s .writebackclaim) ≡ 16))
 last-lists c =
-    let deep = c .good .0 .1 .1 .0 .1 .1 .1 .1 .1 .1 .1 .1 .1 .1 .1 .1 .1 in
-    (search needs, search needs)
+    let deep = c .good .0 .1 .1 .0 .1 .1 .1 .1 .1 .1 .1 .1 .1 .1 .1 .1 in
+    (search needs, search needs, search needs)
+
+-- an array of structs is owned by what its elements hold
+estimates : (c : tie.Start) → length (c .args .r .state .tracked) ≡ 16
+estimates c = sym (length-map (c .args .r .state .tracked) _) ∙ c .good .0 .1 .1 .0 .1 .1 .1 .1 .1 .1 .1 .1 .1 .1 .1 .1 .1 .1 .1 .1 .1 .0 .1 .0 .1
 
 shape : (c : tie.Start) → Shaped (c .args .r .state)
 shape c =
@@ -61,14 +68,16 @@ shape c =
         reclaimcap = search needs;
         writebackcap = search needs;
         writebackreservation = search needs;
+        marked = search needs;
       };
       claim = search needs;
       reserved = search needs;
       reclaimed = search needs;
-      yielded = search needs;
-      writebacks = last-lists c .0;
+      yielded = last-lists c .0;
+      writebacks = last-lists c .1;
       waiting = waiting c;
-      writebackclaim = last-lists c .1;
+      writebackclaim = last-lists c .2;
+      tracked = estimates c;
     }
 
 sub-carry-out : tie.Need-sub-carry-out
