@@ -1,5 +1,5 @@
-//! The replay program of document 01 in Rust, with the writeback reservations and the sum of steps of document
-//! 02's Points 6 and 9, written for speed: what the bench holds `replay` against.
+//! The replay program of document 01 in Rust, with the writeback reservations, the sum of steps and the yields by
+//! forecast of document 02's Points 6, 9 and 11, written for speed: what the bench holds `replay` against.
 //!
 //! Lines are read where they lie in one block of input, and output leaves in one block, so memory is the same
 //! for any script and any line. All domains are handled at once by bit masks (bit n is number n), and masks
@@ -36,6 +36,8 @@ struct Domain {
     reclaim_cap: u16,
     writeback_cap: u16,
     writeback_reservation: u16,
+    /// It yields by forecast.
+    marked: bool,
 }
 
 struct Plan {
@@ -91,6 +93,7 @@ fn read_plan(file: &[u8]) -> Result<Plan, PlanRefusal> {
             reclaim_cap: u16_at(record, 6),
             writeback_cap: u16_at(record, 8),
             writeback_reservation: u16_at(record, 10),
+            marked: record[3] == 1,
         };
         if domain.number == 0 || domain.number > 16 {
             return refuse(6, index);
@@ -98,7 +101,7 @@ fn read_plan(file: &[u8]) -> Result<Plan, PlanRefusal> {
         if by_number[domain.number].is_some() {
             return refuse(7, index);
         }
-        if record[3] != 0 || any_set(&record[12..]) {
+        if record[3] > 1 || any_set(&record[12..]) {
             return refuse(8, index);
         }
         if domain.reservation > period
@@ -213,10 +216,37 @@ const EMPTY_ROW: Row = Row {
     writeback_reservation: NO_CAP,
 };
 
+/// A marked domain, with what it is expected to pass in a period: nothing is known until its first one closes.
+struct Forecast {
+    number: usize,
+    reservation: u32,
+    estimate: Option<f64>,
+}
+
+impl Forecast {
+    /// A period has closed in which it passed so many accesses. Rust rounds each of the three operations by itself.
+    fn learn(&mut self, passes: u32) {
+        let c = passes as f64;
+        self.estimate = Some(match self.estimate {
+            None => c,
+            Some(z) => z + (c - z) * 0.25,
+        });
+    }
+
+    /// What it yields at a period's start: its reservation less its need.
+    fn spare(&self) -> u32 {
+        match self.estimate {
+            Some(z) if z <= self.reservation as f64 => self.reservation - z.ceil() as u32,
+            _ => 0,
+        }
+    }
+}
+
 struct Regulator {
     plan: Plan,
     planned: u32,
-    /// A period's beginning, so that closing one copies it.
+    forecasts: Vec<Forecast>,
+    /// A period's beginning but for what is yielded by forecast, so that closing one copies it.
     fresh: Period,
     now: Period,
     closed: u32,
@@ -246,6 +276,18 @@ fn bit_if(condition: bool, n: usize) -> u32 {
     (condition as u32) << n
 }
 
+impl Period {
+    /// Moves k of a domain's claim, which has as much, to the stock.
+    fn give(&mut self, domain: usize, k: u32) {
+        let row = &mut self.rows[domain];
+        row.claim -= k;
+        row.yielded += k;
+        self.stock += k;
+        self.loose += k as i32;
+        self.has_claim &= !bit_if(row.claim == 0, domain);
+    }
+}
+
 impl Regulator {
     fn open(plan: Plan) -> Regulator {
         let period = plan.period as u32;
@@ -261,6 +303,7 @@ impl Regulator {
             rows: [EMPTY_ROW; 32],
         };
         let mut planned = 0;
+        let mut forecasts = Vec::new();
         for d in &plan.domains {
             fresh.loose -= d.reservation as i32 + d.writeback_reservation as i32;
             fresh.has_claim |= bit_if(d.reservation > 0, d.number);
@@ -275,10 +318,18 @@ impl Regulator {
                 ..EMPTY_ROW
             };
             planned |= 1 << d.number;
+            if d.marked {
+                forecasts.push(Forecast {
+                    number: d.number,
+                    reservation: d.reservation as u32,
+                    estimate: None,
+                });
+            }
         }
         Regulator {
             plan,
             planned,
+            forecasts,
             fresh,
             now: fresh,
             closed: 0,
@@ -353,7 +404,14 @@ impl Regulator {
         }
         out.text(" s");
         out.number(self.now.steps);
+        for f in &mut self.forecasts {
+            let row = &rows[f.number];
+            f.learn(f.reservation - row.claim - row.yielded + row.without_claim);
+        }
         self.now = self.fresh;
+        for f in &self.forecasts {
+            self.now.give(f.number, f.spare());
+        }
         out.end_line()
     }
 
@@ -368,16 +426,10 @@ impl Regulator {
         if k == 0 {
             return 22;
         }
-        let p = &mut self.now;
-        let row = &mut p.rows[domain];
-        if k > row.claim {
+        if k > self.now.rows[domain].claim {
             return 23;
         }
-        row.claim -= k;
-        row.yielded += k;
-        p.stock += k;
-        p.loose += k as i32;
-        p.has_claim &= !bit_if(row.claim == 0, domain);
+        self.now.give(domain, k);
         0
     }
 }

@@ -12,6 +12,7 @@ Shapes:
     none    P 64, no domain: best effort alone
 """
 
+import math
 import os
 import random
 import sys
@@ -30,11 +31,12 @@ def record(*fields):
 
 
 def plan_bytes(period, domains):
-    """domains: a list of (number, reservation, reclaim cap, writeback cap, writeback reservation)."""
+    """domains: a list of (number, reservation, reclaim cap, writeback cap, writeback reservation, mark)."""
     parts = [record((0, 2, period), (2, 2, 1 if domains else 0))]
-    for index, (number, q, r, w, v) in enumerate(domains, 1):
+    for index, (number, q, r, w, v, mark) in enumerate(domains, 1):
         following = index + 1 if index < len(domains) else 0
-        parts.append(record((0, 2, following), (2, 1, number), (4, 2, q), (6, 2, r), (8, 2, w), (10, 2, v)))
+        head = (0, 2, following), (2, 1, number), (3, 1, mark)
+        parts.append(record(*head, (4, 2, q), (6, 2, r), (8, 2, w), (10, 2, v)))
     return b"".join(parts)
 
 
@@ -53,15 +55,17 @@ def drawn_plan(rng, period, numbers):
         # None of the writeback cap, half of it, or all of it is reserved, by turns; the rest of
         # the share is for accesses.
         v = min(share, w * (number % 3) // 2)
-        domains.append((number, share - v, r, w, v))
+        # Every other number is marked: it yields by forecast.
+        domains.append((number, share - v, r, w, v, number % 2))
     return domains
 
 
-def draw_offers(rng, numbers):
-    """One slot line's digits: an access from three in eight, a writeback from one in eight."""
+def draw_offers(rng, domains):
+    """One slot line's digits: an access from three in eight, a writeback from one in eight; from a marked domain
+    each a sixteenth, so that it has something to yield."""
     digits = ["0"] * 17
-    for n in numbers:
-        digits[n] = "0001110120001102"[rng.getrandbits(4)]
+    for n, mark in [(0, 0)] + [(d[0], d[5]) for d in domains]:
+        digits[n] = ("0001110120001102", "0000010000000002")[mark][rng.getrandbits(4)]
     return "".join(digits)
 
 
@@ -78,6 +82,7 @@ class Run:
         self.period = period
         self.domains = domains
         self.turn = 0
+        self.estimates = {}
         self.begin()
 
     def begin(self):
@@ -87,7 +92,7 @@ class Run:
         self.writeback_claim = [0] * 17
         self.reclaims_left = [0] * 17
         self.writebacks_left = [0] * 17
-        for number, q, r, w, v in self.domains:
+        for number, q, r, w, v, _ in self.domains:
             self.claim[number] = q
             self.writeback_claim[number] = v
             self.reclaims_left[number] = r
@@ -97,6 +102,18 @@ class Run:
         self.may_reclaim = sum(1 << n for n in range(17) if self.reclaims_left[n])
         self.has_room = 1 | sum(1 << n for n in range(17) if self.writebacks_left[n])
         self.loose = self.period - sum(self.claim) - sum(self.writeback_claim)
+        self.passes = [0] * 17
+        for number, z in self.estimates.items():
+            spare = self.claim[number] - math.ceil(z)
+            if spare > 0:
+                self.give(number, spare)
+
+    def close(self):
+        for number, _, _, _, _, mark in self.domains:
+            if mark:
+                z = self.estimates.get(number, self.passes[number])
+                self.estimates[number] = z + (self.passes[number] - z) * 0.25
+        self.begin()
 
     def slot(self, accesses, writebacks):
         on_claim = accesses & self.has_claim | writebacks & self.has_writeback_claim
@@ -121,10 +138,12 @@ class Run:
                 if not self.writebacks_left[n]:
                     self.has_room ^= bit
             elif on_claim & bit:
+                self.passes[n] += 1
                 self.claim[n] -= 1
                 if not self.claim[n]:
                     self.has_claim ^= bit
             elif n:
+                self.passes[n] += 1
                 self.stock -= 1
                 self.reclaims_left[n] -= 1
                 if not self.reclaims_left[n]:
@@ -132,7 +151,7 @@ class Run:
         self.loose -= 1
         self.left -= 1
         if not self.left:
-            self.begin()
+            self.close()
 
     def give(self, domain, k):
         self.claim[domain] -= k
@@ -142,18 +161,18 @@ class Run:
             self.has_claim &= ~(1 << domain)
 
 
-def slot_lines(rng, numbers):
+def slot_lines(rng, domains):
     """A pool of drawn slot lines with their masks: drawing from it is quicker than drawing digits."""
     pool = []
     for _ in range(1 << 15):
-        digits = draw_offers(rng, numbers)
+        digits = draw_offers(rng, domains)
         pool.append(("s " + digits + "\n", *masks(digits)))
     return pool
 
 
 def script(rng, period, domains, lines, yields):
     """The script in blocks of text. `yields` is the part of lines that are to be yields."""
-    pool = slot_lines(rng, [0] + [d[0] for d in domains])
+    pool = slot_lines(rng, domains)
     if not yields:
         texts = [line for line, _, _ in pool]
         for start in range(0, lines, BLOCK):
@@ -187,7 +206,7 @@ def shape_plan(rng, shape):
         numbers = sorted(rng.sample(range(1, 17), rng.randint(4, 12)))
         return period, drawn_plan(rng, period, numbers), 0.05
     if shape == "short":
-        return 16, [(1, 4, 2, 3, 1), (2, 2, 2, 4, 2), (7, 3, 1, 0, 0), (16, 1, 3, 2, 0)], 0.02
+        return 16, [(1, 4, 2, 3, 1, 1), (2, 2, 2, 4, 2, 0), (7, 3, 1, 0, 0, 1), (16, 1, 3, 2, 0, 0)], 0.02
     if shape == "none":
         return 64, [], 0
     sys.exit("no such shape: " + shape)
