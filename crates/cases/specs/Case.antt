@@ -12,8 +12,10 @@ use Rattle.plan.specs.declared.value.Plan.{Plan}
 use Rattle.plan.specs.declared.chain.Sums.{Sums}
 use Rattle.plan.specs.declared.reading.Reading.{Reading}
 use Rattle.plan.specs.declared.writing.Writing.{Writing}
+use Rattle.regulator.specs.Forecast.{nextEstimate, needOf}
 use Rattle.regulator.specs.Verdict.{loose}
 use Rattle.regulator.specs.Calls.{openPlan, handOf}
+use Rattle.regulator.specs.declared.forecast.Estimate.{Estimate}
 use Rattle.regulator.specs.declared.state.State.{State}
 use Rattle.regulator.specs.declared.close.Counts.{Counts}
 use Rattle.regulator.specs.declared.calls.Handing.{Handing}
@@ -24,7 +26,8 @@ use Rattle.share.specs.Run.{Made, made, run}
 
 -- An input: a plan file that is read; a plan file whose sums are told; a plan value that is written to a lent buffer; a plan file whose
 -- plan is opened, and calls from there on; the same, to see the states that they return; a call on a state that is given; a plan handed
--- in on such a state; a script line that is read, with a lent buffer; or a plan file and a script of the replay.
+-- in on such a state; a script line that is read, with a lent buffer; a plan file and a script of the replay; a call on a state that is
+-- given, to see the state that it returns; an estimate at the close of a period with c access passes; or one of which the need is asked.
 pub data Input : Type 0 where
   file : (bytes : List ℕ) → Input
   summed : (bytes : List ℕ) → Input
@@ -35,6 +38,9 @@ pub data Input : Type 0 where
   handed : State → Plan → Input
   line : (bytes buffer : List ℕ) → Input
   replayed : (bytes script : List ℕ) → Input
+  stepped : State → Call → Input
+  closing : Estimate → (c : ℕ) → Input
+  needing : Estimate → (Q : ℕ) → Input
 
 -- What is shown of a call: 0 or the number of a refusal, what the lent buffer holds on return, the idle slots and loose of the state
 -- returned (loose before the next slot, that is), the counts told, and the steps.
@@ -48,7 +54,7 @@ pub record Shown : Type 0 where
 
 -- An outcome: what reading answers; the sums told; what writing answers, and the buffer; 0 or the number of a refusal of opening, and
 -- what is shown of each call, or its refusal and the whole state that it returns; what handing in answers; what a line means, and the
--- buffer; or all that is printed.
+-- buffer; all that is printed; an estimate; or a need.
 pub data Outcome : Type 0 where
   reading : Reading → Outcome
   sums : Sums → Outcome
@@ -58,6 +64,8 @@ pub data Outcome : Type 0 where
   hands : Handing → Outcome
   meaning : Meaning → (buffer : List ℕ) → Outcome
   prints : List ℕ → Outcome
+  estimate : Estimate → Outcome
+  need : ℕ → Outcome
 
 abbrev shownOf : Made → Shown
 shownOf m =
@@ -78,6 +86,9 @@ outcomeOf (given s c) = answers 0 (shownOf (made s c) ∷ [])
 outcomeOf (handed s p) = hands (handOf s p)
 outcomeOf (line bytes buffer) = meaning (meaningOf bytes) (offersIn bytes buffer)
 outcomeOf (replayed bytes script) = prints (replayText bytes script)
+outcomeOf (stepped s c) = let m = made s c in returns 0 ((m .refused, m .state) ∷ [])
+outcomeOf (closing e c) = estimate (nextEstimate e c)
+outcomeOf (needing e Q) = need (needOf e Q)
 
 pub record Case : Type 0 where
   pub input : Input

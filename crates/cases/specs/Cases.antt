@@ -1,5 +1,5 @@
--- The starred cases of document 01, 'Plan A and its neighbours', whole bullets; its misreadings, a few sentences more, and points of
--- document 02; and document 01's script on plan A: one list of inputs and outcomes.
+-- The starred cases of document 01, 'Plan A and its neighbours', whole bullets; its misreadings, a few sentences more, and Points 1, 3,
+-- 6 and 9 of document 02; and document 01's script on plan A: inputs and outcomes.
 -- Assumes nothing.
 use Prim.Native.Nat.{ℕ, _+_, _*_}
 use mathlib.Core.Path.{_≡_}
@@ -12,6 +12,7 @@ use Rattle.table.specs.Ranges.{valuesBelow}
 use Rattle.plan.specs.Reading.{refusedReading, acceptedReading}
 use Rattle.plan.specs.Writing.{recordsFrom, refusedWriting}
 use Rattle.plan.specs.declared.value.Plan.{Plan}
+use Rattle.regulator.specs.Forecast.{noEstimates}
 use Rattle.regulator.specs.State.{noneWaiting}
 use Rattle.regulator.specs.declared.state.State.{State}
 use Rattle.regulator.specs.declared.state.Waiting.{Waiting}
@@ -23,10 +24,10 @@ use Rattle.share.specs.Call.{Call, slot, yield, handIn}
 use Rattle.cases.specs.Case.{file, summed, value, calls, through, given, handed, line, replayed, Shown, Outcome, reading, sums, writing, answers, returns, hands, meaning, prints, outcomeOf, Case}
 
 -- the bytes of record 0 and of a domain record, "each record filled with zeros"; `byte3` is 0 in a good one
-abbrev head : ℕ → ℕ → List ℕ
+abbrev pub head : ℕ → ℕ → List ℕ
 head low high = low ∷ high ∷ 1 ∷ 0 ∷ replicate 12 0
 
-abbrev domain : ℕ → ℕ → ℕ → ℕ → ℕ → ℕ → List ℕ
+abbrev pub domain : ℕ → ℕ → ℕ → ℕ → ℕ → ℕ → List ℕ
 domain next number byte3 Q R W = next ∷ 0 ∷ number ∷ byte3 ∷ Q ∷ 0 ∷ R ∷ 0 ∷ W ∷ 0 ∷ replicate 6 0
 
 -- Document 02, Point 6: a domain record with a writeback reservation; `byte12` is 0 in a good one
@@ -88,12 +89,13 @@ valueOf P Q =
       reclaimcap = 1 ∷ replicate 15 0;
       writebackcap = 4 ∷ replicate 15 0;
       writebackreservation = replicate 16 0;
+      marked = replicate 16 false;
     }
 
 abbrev accepted : ℕ → ℕ → Outcome
 accepted P Q = reading (acceptedReading (valueOf P Q))
 
-abbrev refused : ℕ → ℕ → Outcome
+abbrev pub refused : ℕ → ℕ → Outcome
 refused n place = reading (refusedReading n place)
 
 -- the sums told: of how many records, and the sixteen places
@@ -101,11 +103,11 @@ abbrev tells : ℕ → List ℕ → Outcome
 tells count places = sums (record { records = count; told = places })
 
 -- seventeen numbers, of which those of 0, 1 and 2 are given
-abbrev three : ℕ → ℕ → ℕ → List ℕ
+abbrev pub three : ℕ → ℕ → ℕ → List ℕ
 three a b c = a ∷ b ∷ c ∷ replicate 14 0
 
 -- a lent buffer of nines
-abbrev nines : List ℕ
+abbrev pub nines : List ℕ
 nines = replicate 17 9
 
 -- a slot in which 0, 1 and 2 make these offers
@@ -122,11 +124,11 @@ abbrev completes : ℕ → ℕ → ℕ → Counts → ℕ → Shown
 completes a b c counts steps = record { refused = 0; verdicts = three a b c; idle = 0; loose = pos 1; counts = some counts; steps = steps }
 
 -- a call before any idle slot that decides none: 0 or a refusal, what the lent buffer holds, and loose
-abbrev undecided : ℕ → List ℕ → ℤ → Shown
+abbrev pub undecided : ℕ → List ℕ → ℤ → Shown
 undecided n buffer loose = record { refused = n; verdicts = buffer; idle = 0; loose = loose; counts = none; steps = 0 }
 
 -- a yield or a plan handed in
-abbrev yields : ℕ → ℤ → Shown
+abbrev pub yields : ℕ → ℤ → Shown
 yields n loose = undecided n [] loose
 
 -- counts without idle slots and writebacks: best effort, then reserved, reclaimed and yielded of domain 1, and the sum of steps; domain 2
@@ -175,6 +177,7 @@ summing steps =
       steps = steps;
       waiting = noneWaiting;
       writebackclaim = replicate 16 0;
+      tracked = noEstimates;
     }
 
 -- a yield of 1 by domain 1 there: 0, or 30 and nothing moves
@@ -182,7 +185,7 @@ abbrev yieldsThere : ℕ → ℤ → Outcome
 yieldsThere n loose = answers 0 (record { refused = n; verdicts = []; idle = 2; loose = loose; counts = none; steps = 0 } ∷ [])
 
 -- sixteen numbers, of which those of domains 1, 2 and 3 are given
-abbrev domains : ℕ → ℕ → ℕ → List ℕ
+abbrev pub domains : ℕ → ℕ → ℕ → List ℕ
 domains a b c = a ∷ b ∷ c ∷ replicate 13 0
 
 -- a plan of domains 1 and 3: P 3, the R of domain 3 is 1, all else but Q is 0; plan B has Q 1 and 1
@@ -195,12 +198,13 @@ secondPass Q1 Q3 =
       reclaimcap = domains 0 0 1;
       writebackcap = replicate 16 0;
       writebackreservation = replicate 16 0;
+      marked = replicate 16 false;
     }
 
 abbrev planB : Plan
 planB = secondPass 1 1
 
-abbrev awaiting : Plan → Waiting
+abbrev pub awaiting : Plan → Waiting
 awaiting p = record { given = true; plan = p }
 
 -- a state without idle slots, yields and writebacks
@@ -222,6 +226,7 @@ stateOf p decided closed best turn claim reserved steps waiting =
       steps = steps;
       waiting = waiting;
       writebackclaim = p .writebackreservation;
+      tracked = noEstimates;
     }
 
 -- plan A in its first period, after a slot or more, the first of them best effort's
@@ -288,6 +293,7 @@ valueD Q W1 W2 reservations =
       reclaimcap = replicate 16 0;
       writebackcap = domains W1 W2 0;
       writebackreservation = reservations;
+      marked = replicate 16 false;
     }
 
 abbrev readD : Plan
@@ -312,13 +318,14 @@ inD decided best turn claim reserved writebacks steps writebackclaim =
       steps = steps;
       waiting = noneWaiting;
       writebackclaim = writebackclaim;
+      tracked = noEstimates;
     }
 
 -- plan D with these writebacks and writeback claims, of which no access has passed; and a yield of 1 by domain 1 there
 abbrev wrote : (decided : ℕ) → (writebacks writebackclaim : List ℕ) → State
 wrote decided writebacks writebackclaim = inD decided 0 3 (domains 2 2 0) (domains 0 0 0) writebacks 0 writebackclaim
 
-abbrev yieldsOf : ℕ → ℤ → Outcome
+abbrev pub yieldsOf : ℕ → ℤ → Outcome
 yieldsOf n loose = answers 0 (yields n loose ∷ [])
 
 -- Point 6: a period of plan D with writebacks on claim, on neither, blocked and at the cap
@@ -622,7 +629,3 @@ cases =
       outcome = prints (bytes "period idle best domains\nline 1 refused 32\n");
     }
     ∷ []
-
--- the claim: each input has its outcome
-abbrev pub Starred : Type 0
-Starred = map (λ (c : Case). outcomeOf (c .input)) cases ≡ map (λ (c : Case). c .outcome) cases

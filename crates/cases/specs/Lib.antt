@@ -1,4 +1,6 @@
--- What a case is, the list of cases, and the premise that is met.
+-- What a case is, the cases as one list, and the premise that is met.
 pub mod Case
 pub mod Cases
+pub mod Forecasts
+pub mod Starred
 pub mod Premise
