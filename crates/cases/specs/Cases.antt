@@ -2,8 +2,7 @@
 -- 6 and 9 of document 02; and document 01's script on plan A: inputs and outcomes.
 -- Assumes nothing.
 use Prim.Native.Nat.{ℕ, _+_, _*_}
-use mathlib.Core.Path.{_≡_}
-use mathlib.Core.List.{List, [], _∷_, _++_, map}
+use mathlib.Core.List.{List, [], _∷_, _++_}
 use mathlib.Core.Bool.{true, false}
 use mathlib.Core.Option.{Option, none, some}
 use lib.ListN.{replicate}
@@ -21,9 +20,9 @@ use Rattle.regulator.specs.declared.calls.Handing.{Handing}
 use Rattle.script.specs.Line.{slotLine, yieldLine, badLine}
 use Rattle.script.specs.Text.{bytes}
 use Rattle.share.specs.Call.{Call, slot, yield, handIn}
-use Rattle.cases.specs.Case.{file, summed, value, calls, through, given, handed, line, replayed, Shown, Outcome, reading, sums, writing, answers, returns, hands, meaning, prints, outcomeOf, Case}
+use Rattle.cases.specs.Case.{file, summed, value, calls, through, given, handed, line, replayed, Shown, Outcome, reading, sums, writing, answers, returns, hands, meaning, prints, Case}
 
--- the bytes of record 0 and of a domain record, "each record filled with zeros"; `byte3` is 0 in a good one
+-- the bytes of record 0 and of a domain record, "each record filled with zeros"; `byte3` is 0 in a good one, or 1 for a mark
 abbrev pub head : ℕ → ℕ → List ℕ
 head low high = low ∷ high ∷ 1 ∷ 0 ∷ replicate 12 0
 

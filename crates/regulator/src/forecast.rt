@@ -1,10 +1,12 @@
-// Yield by forecast: the estimate of a domain, its need, what is yielded at a period's start, and the estimates after a close.
+// Yield by forecast: the estimate of a domain, its need, what is yielded at a period's start, the estimates after a close, and
+// whether they add up.
 ghost use mathlib.Core.Path.{_≡_};
-ghost use mathlib.Core.Bool.{cond};
+ghost use mathlib.Core.Bool.{cond, _||_};
 ghost use Prim.Native.Nat.{ℕ, _+_, _-_};
 ghost use Rattle.table.specs.Sums.{nth};
-ghost use Rattle.table.specs.Ranges.{valuesBelow, lowest};
-ghost use Rattle.regulator.specs.Forecast.{noEstimates, moved, nextEstimate, atOrAbove, needOf, startClaims, closedWith};
+ghost use Rattle.table.specs.Ranges.{valuesBelow, everyBelow, lowest};
+ghost use Rattle.regulator.specs.Forecast.{noEstimates, isUnknown, moved, nextEstimate, atOrAbove, needOf, startClaims, closedWith};
+ghost use Rattle.regulator.specs.State.{estimateAddsUp};
 ghost use Rattle.regulator.specs.declared.forecast.Estimate.the-variants.{Unknown};
 use super::numbers;
 
@@ -136,4 +138,31 @@ pub(crate) fn close_all(
         k += 1;
     }
     next
+}
+
+// Does the estimate of one domain add up: is it marked, or has none?
+fn estimate_adds_up(t: Tracked, marked: bool) -> bool
+    ensures { λ b. ⌜ b ≡ (marked || isUnknown (t .estimate)) ⌝ }
+{
+    if marked {
+        return true;
+    }
+    let e = t.estimate;
+    match e {
+        Estimate::Unknown => true,
+        Estimate::Known(_) => false,
+    }
+}
+
+pub(crate) fn estimates_add_up(marked: [bool; 16], tracked: [Tracked; 16]) -> bool
+    ensures { λ b. ⌜ b ≡ everyBelow (estimateAddsUp marked tracked) 16 ⌝ }
+{
+    let mut j = 0;
+    while j < 16 {
+        if estimate_adds_up(tracked[j], marked[j]) {} else {
+            return false;
+        }
+        j += 1;
+    }
+    true
 }

@@ -1,14 +1,12 @@
 // The state of a period: where it begins, whether it adds up, what a yield moves, and the plan that waits.
 ghost use mathlib.Core.Path.{_≡_};
-ghost use mathlib.Core.Bool.{_&&_, _||_};
+ghost use mathlib.Core.Bool.{_&&_};
 ghost use Prim.Native.Nat.{_+_, _-_, _<_, _≤_};
 ghost use Rattle.table.specs.Sums.{nth, sum};
 ghost use Rattle.table.specs.Ranges.{everyBelow};
 ghost use Rattle.plan.specs.Value.{noDomains};
-ghost use Rattle.regulator.specs.Forecast.{isUnknown};
-ghost use Rattle.regulator.specs.State.{begun, numbersAddUp, domainAddsUp, sumsAddUp, stepsAddUp, waitingAddsUp, estimateAddsUp, addsUp, yielding, handing};
+ghost use Rattle.regulator.specs.State.{begun, numbersAddUp, domainAddsUp, sumsAddUp, stepsAddUp, waitingAddsUp, addsUp, yielding, handing};
 use super::forecast;
-use super::forecast::Estimate;
 use super::forecast::Tracked;
 use super::numbers;
 use plan::Plan;
@@ -175,33 +173,6 @@ fn waiting_adds_up(w: Waiting) -> bool
     }
 }
 
-// Does the estimate of one domain add up: is it marked, or has none?
-fn estimate_adds_up(t: Tracked, marked: bool) -> bool
-    ensures { λ b. ⌜ b ≡ (marked || isUnknown (t .estimate)) ⌝ }
-{
-    if marked {
-        return true;
-    }
-    let e = t.estimate;
-    match e {
-        Estimate::Unknown => true,
-        Estimate::Known(z) => false,
-    }
-}
-
-fn estimates_add_up(marked: [bool; 16], tracked: [Tracked; 16]) -> bool
-    ensures { λ b. ⌜ b ≡ everyBelow (estimateAddsUp marked tracked) 16 ⌝ }
-{
-    let mut j = 0;
-    while j < 16 {
-        if estimate_adds_up(tracked[j], marked[j]) {} else {
-            return false;
-        }
-        j += 1;
-    }
-    true
-}
-
 fn all_eight(a: bool, b: bool, c: bool, d: bool, e: bool, f: bool, g: bool, h: bool) -> bool
     ensures { λ r. ⌜ r ≡ (a && (b && (c && (d && (e && (f && (g && h))))))) ⌝ }
 {
@@ -234,7 +205,7 @@ pub(crate) fn adds_up(s: State) -> bool
     let waiting = waiting_adds_up(w);
     let marked = p.marked;
     let tracked = s.tracked;
-    let estimates = estimates_add_up(marked, tracked);
+    let estimates = forecast::estimates_add_up(marked, tracked);
     all_eight(
         refusal.refused == 0,
         s.decided < p.period,

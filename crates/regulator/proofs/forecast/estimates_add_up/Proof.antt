@@ -1,4 +1,4 @@
--- `regulator::state::estimates_add_up` meets its contract: every estimate passed adds up.
+-- `regulator::forecast::estimates_add_up` meets its contract: every estimate passed adds up.
 -- Assumes nothing.
 use mathlib.Core.Path.{_≡_, sym, subst, _∙_}
 use mathlib.Core.Bool.{true}
@@ -8,8 +8,8 @@ use borrow.Author.Needs.{needs}
 use Rattle.table.specs.Ranges.{everyBelow}
 use Rattle.table.proofs.Searches.{every-none, every-more, every-out}
 use Rattle.regulator.specs.State.{estimateAddsUp}
-use Rattle.regulator.proofs.state.estimates_add_up.Statement.{statement}
-use Rattle.regulator.proofs.state.estimates_add_up.Tie as tie
+use Rattle.regulator.proofs.forecast.estimates_add_up.Statement.{statement}
+use Rattle.regulator.proofs.forecast.estimates_add_up.Tie as tie
 
 abbrev Inv-loop : tie.InvT-loop
 Inv-loop marked tracked j₀ j = (j ≤ 16) × (everyBelow (estimateAddsUp marked tracked) j ≡ true)
