@@ -47,7 +47,7 @@ naming next = head 4 0 ++ (domain 2 1 0 2 1 4 ++ domain next 2 0 1 0 0)
 abbrev lasting : ℕ → ℕ → List ℕ
 lasting low high = head low high ++ (domain 2 1 0 2 1 4 ++ domain 0 2 0 1 0 0)
 
--- plan A with two faults in record 1: domain 0, and byte 3 set
+-- plan A with two faults in record 1: domain 0, and byte 3 set (until Point 11, which makes 1 there a mark)
 abbrev twoFaults : List ℕ
 twoFaults = head 4 0 ++ (domain 2 0 1 2 1 4 ++ domain 0 2 0 1 0 0)
 

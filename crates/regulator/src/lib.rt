@@ -1,4 +1,4 @@
-// The regulator: the state of a period, one slot, the close of a period, and the calls.
+// The regulator: the state of a period, one slot, the close of a period, yields by forecast, and the calls.
 //
 // open(plan): the state that a plan starts with; or 2, 9, 11 or 10 with its place.
 // slot(state, offers, verdicts): one slot decided, for any state, bytes and lengths; or 30, 34, 31, 32 or 33.
