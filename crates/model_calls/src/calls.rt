@@ -1,6 +1,6 @@
 // The calls of a regulator whose state is lent as flat words and changed in place.
-ghost use Prim.Native.Nat.{_<_, _≤_};
 use super::cells;
+use super::forecast;
 use super::sums;
 use super::verdict;
 use super::waiting;
@@ -13,7 +13,7 @@ pub struct Decision {
 }
 
 // Opens a plan: its state, or all zeros where it is refused.
-pub fn open(period: u32, domains: [u32; 80], s: &mut [u64]) -> model_plans::Told {
+pub fn open(period: u32, domains: [u32; 96], s: &mut [u64]) -> model_plans::Told {
     let told = model_plans::check(period, domains);
     cells::clear(s);
     if told.number != 0 {
@@ -163,12 +163,28 @@ fn decide(s: &mut [u64], offers: &[u8], verdicts: &mut [u8]) -> u32 {
     steps
 }
 
+// Leaves each domain its need as its claim; the rest of Q is yielded, and is the stock.
+fn foresee(s: &mut [u64]) {
+    let mut n: usize = 1;
+    while n <= 16 {
+        let need = forecast::need(s, n);
+        let rest = cells::less(cells::get(s, n, cells::Q), need);
+        cells::put(s, n, cells::CLAIM, need);
+        cells::put(s, n, cells::YIELDED, rest);
+        n += 1;
+    }
+    let stock = cells::total(s, cells::YIELDED);
+    cells::put(s, 0, cells::STOCK, stock);
+}
+
 // Closes a period: puts its counts, and starts the next, of the plan that waits if there is one.
 fn close(s: &mut [u64], counts: &mut [u64]) {
     put_counts(s, counts);
     cells::add(s, 0, cells::CLOSED, 1);
+    forecast::learn(s);
     waiting::take_force(s);
     cells::start_period(s);
+    foresee(s);
 }
 
 // Decides a slot, or tells its refusal. The counts are all 0 where none are told.
@@ -224,7 +240,7 @@ pub fn take_yield(s: &mut [u64], domain: u64, k: u64) -> u32 {
 }
 
 // Takes a plan that is handed in, or tells its refusal.
-pub fn hand_in(s: &mut [u64], period: u32, domains: [u32; 80]) -> model_plans::Told {
+pub fn hand_in(s: &mut [u64], period: u32, domains: [u32; 96]) -> model_plans::Told {
     let number = state_refusal(s);
     if number != 0 {
         return model_plans::Told {

@@ -1,16 +1,16 @@
-// Flat words in lent slices, in rows of eleven: row 0 for the period and rows 1 to 16 for the domains; then, in a state and in
-// the ledger's page, as many rows for the plan that waits, of which the first five columns are used.
+// Flat words in lent slices, in rows of fourteen: row 0 for the period and rows 1 to 16 for the domains; then, in a state and
+// in the ledger's page, as many rows for the plan that waits, of which the columns to V and MARK are used.
 ghost use Prim.Native.Nat.{_<_, _≤_};
 use model_plans::words;
 
 pub const ROWS: usize = 34;
 
-pub const COLUMNS: usize = 11;
+pub const COLUMNS: usize = 14;
 
 // The first row of the plan that waits, and the words before it: counts have no others.
 pub const NEXT: usize = 17;
 
-pub const COUNTS: usize = 187;
+pub const COUNTS: usize = 238;
 
 // The columns of row 0.
 pub const PERIOD: usize = 0;
@@ -55,18 +55,30 @@ pub const WRITEBACKS: usize = 9;
 
 pub const WRITECLAIM: usize = 10;
 
-// A word, 0 where the slice has none. What no 32 bits hold reads as the most that they hold: no number of a state that
-// adds up comes near it, and sums of such words are plain.
-pub fn get(s: &[u64], row: usize, column: usize) -> u64
-    ensures { λ r. ⌜ r < 4294967296 ⌝ }
-{
+pub const MARK: usize = 11;
+
+// The kind of an estimate, and its bits.
+pub const KIND: usize = 12;
+
+pub const BITS: usize = 13;
+
+// A word with all its bits, 0 where the slice has none.
+pub fn whole(s: &[u64], row: usize, column: usize) -> u64 {
     if row < ROWS {
         if column < COLUMNS {
             let at = COLUMNS * row + column;
-            return at_most_32_bits(if at < s.len() { s[at] } else { 0 });
+            return if at < s.len() { s[at] } else { 0 };
         }
     }
     0
+}
+
+// A word that is a number. What no 32 bits hold reads as the most that they hold: no number of a state that adds up comes
+// near it, and sums of such words are plain.
+pub fn get(s: &[u64], row: usize, column: usize) -> u64
+    ensures { λ r. ⌜ r < 4294967296 ⌝ }
+{
+    at_most_32_bits(whole(s, row, column))
 }
 
 fn at_most_32_bits(x: u64) -> u64
@@ -109,33 +121,40 @@ pub fn total(s: &[u64], column: usize) -> u64
     sum
 }
 
-// Puts a plan's words into the rows from one on, row 0 or NEXT: the period, and the columns up to V.
-pub fn put_plan(s: &mut [u64], from: usize, period: u32, domains: [u32; 80])
+// The column of one of a domain's words in a plan.
+fn plan_column(which: u32) -> usize
+    requires { ⌜ which < 6 ⌝ }
+{
+    if which == 5 { MARK } else { which as usize }
+}
+
+// Puts a plan's words into the rows from one on, row 0 or NEXT: the period, and the columns up to V and MARK.
+pub fn put_plan(s: &mut [u64], from: usize, period: u32, domains: [u32; 96])
     requires { ⌜ from ≤ 17 ⌝ }
 {
     put(s, from, PERIOD, words::wider(period));
     let mut k: u32 = 0;
-    while k < 80 {
-        let row = from + (k / 5 + 1) as usize;
-        let column = (k % 5) as usize;
+    while k < 96 {
+        let row = from + (k / 6 + 1) as usize;
         put(
             s,
             row,
-            column,
-            words::wider(words::word(domains, k / 5 + 1, k % 5)),
+            plan_column(k % 6),
+            words::wider(words::word(domains, k / 6 + 1, k % 6)),
         );
         k += 1;
     }
 }
 
 // The words of the domains of such a plan, read back.
-pub fn plan_of(s: &[u64], from: usize) -> [u32; 80]
+pub fn plan_of(s: &[u64], from: usize) -> [u32; 96]
     requires { ⌜ from ≤ 17 ⌝ }
 {
-    let mut domains = [0u32; 80];
-    let mut k: usize = 0;
-    while k < 80 {
-        domains[k] = get(s, from + k / 5 + 1, k % 5) as u32;
+    let mut domains = [0u32; 96];
+    let mut k: u32 = 0;
+    while k < 96 {
+        let row = from + (k / 6 + 1) as usize;
+        domains[k as usize] = get(s, row, plan_column(k % 6)) as u32;
         k += 1;
     }
     domains
@@ -150,7 +169,7 @@ pub fn write_claim(s: &[u64], n: usize) -> u64 {
     less(get(s, n, V), get(s, n, WRITEBACKS))
 }
 
-// Starts a domain's period: its claims from Q and V, and the other words of the period at 0.
+// Starts a domain's period: its claims from Q and V, and the other words of the period at 0; nothing is foreseen yet.
 fn start_domain(s: &mut [u64], n: usize) {
     let quota = get(s, n, Q);
     put(s, n, CLAIM, quota);

@@ -1,11 +1,12 @@
 // The ledger of document 01: fed the plan, the calls, whether each was refused, and the verdicts and steps of a decided slot;
 // never a state. It keeps the last plan handed in and not refused, and takes it when the next period begins.
 // Its page has the rows and columns of `cells`: in row 0 the period, slots decided, idle, best effort and the sum of the steps
-// fed; in a domain's row Q, R, V, claim left, passes on claim, reclaimed, yielded, writebacks and writeback claim left, in
-// column 0 whether it kept asking, and in that of W, which no sentence asks for, the writebacks on claim; from row NEXT on
-// the plan kept.
+// fed; in a domain's row Q, R, V, claim left, passes on claim, reclaimed, yielded, writebacks, writeback claim left, the mark
+// and the estimate worked out from the page's own passes, in column 0 whether it kept asking, and in that of W, which no
+// sentence asks for, the writebacks on claim; from row NEXT on the plan kept.
 ghost use Prim.Native.Nat.{_+_, _<_, _≤_};
 use super::cells;
+use super::forecast;
 use super::verdict;
 use super::waiting;
 use model_plans::words;
@@ -15,26 +16,38 @@ const ASKING: usize = 0;
 const ONCLAIM: usize = 3;
 
 // What an entry showed: whether it completed a period, how many domains with a reservation above 0 kept asking through
-// that period, how many of them had both reservations above 0, and how many sentences of demand 3 did not hold.
+// that period, how many of them had both reservations above 0, how many had yielded by forecast, and how many sentences of
+// demand 3 did not hold.
 pub struct Entry {
     pub complete: bool,
     pub asked: u32,
     pub twofold: u32,
+    pub foreseen: u32,
     pub faults: u32,
 }
 
-pub fn begin(page: &mut [u64], period: u32, domains: [u32; 80]) {
+pub fn begin(page: &mut [u64], period: u32, domains: [u32; 96]) {
     cells::clear(page);
     cells::put_plan(page, 0, period, domains);
     start_page(page);
 }
 
+// Enters a yield of k: from the claim left to the yielded.
+fn move_claim(page: &mut [u64], n: usize, k: u64) {
+    cells::take(page, n, cells::CLAIM, k);
+    cells::add(page, n, cells::YIELDED, k);
+}
+
+// Begins a period, and enters what each domain yields by forecast.
 fn start_page(page: &mut [u64]) {
     cells::start_period(page);
     let mut n: usize = 1;
     while n <= 16 {
         cells::put(page, n, ASKING, 1);
         cells::put(page, n, ONCLAIM, 0);
+        let need = forecast::need(page, n);
+        let rest = cells::less(cells::get(page, n, cells::Q), need);
+        move_claim(page, n, rest);
         n += 1;
     }
 }
@@ -74,11 +87,12 @@ fn open_entry(page: &[u64], faults: u32) -> Entry
         complete: false,
         asked: 0,
         twofold: 0,
+        foreseen: 0,
         faults: faults + bounds(page),
     }
 }
 
-// A yield of k: from the claim left to the yielded.
+// A yield of k, as a call.
 pub fn enter_yield(page: &mut [u64], refused: bool, domain: u64, k: u64) -> Entry {
     if refused {
         return open_entry(page, 0);
@@ -89,13 +103,12 @@ pub fn enter_yield(page: &mut [u64], refused: bool, domain: u64, k: u64) -> Entr
         cells::ROWS
     };
     let short = k > cells::get(page, n, cells::CLAIM);
-    cells::take(page, n, cells::CLAIM, k);
-    cells::add(page, n, cells::YIELDED, k);
+    move_claim(page, n, k);
     open_entry(page, words::one_if(short))
 }
 
 // A plan handed in: the last one not refused is kept.
-pub fn enter_plan(page: &mut [u64], refused: bool, period: u32, domains: [u32; 80]) -> Entry {
+pub fn enter_plan(page: &mut [u64], refused: bool, period: u32, domains: [u32; 96]) -> Entry {
     if refused {
         return open_entry(page, 0);
     }
@@ -214,11 +227,12 @@ fn counts_agree(page: &[u64], complete: bool, told: bool, counts: &[u64]) -> boo
     told == complete
 }
 
-// What a completed period comes to: how many domains with a reservation kept asking, how many with both, and how many of
-// those that kept asking did not use up both claims.
+// What a completed period comes to: how many domains with a reservation kept asking, how many with both, how many that had
+// yielded by forecast, and how many of those that kept asking did not use up both claims.
 struct Shares {
     asked: u32,
     twofold: u32,
+    foreseen: u32,
     faults: u32,
 }
 
@@ -244,6 +258,7 @@ fn settled(page: &[u64]) -> Shares
 {
     let mut asked: u32 = 0;
     let mut twofold: u32 = 0;
+    let mut foreseen: u32 = 0;
     let mut faults: u32 = 0;
     let mut n: usize = 1;
     while n <= 16 {
@@ -251,12 +266,14 @@ fn settled(page: &[u64]) -> Shares
         let writes = cells::get(page, n, cells::V);
         asked += words::one_if(kept_asking(page, n, reads + writes > 0));
         twofold += words::one_if(kept_asking(page, n, reads > 0 && writes > 0));
+        foreseen += words::one_if(kept_asking(page, n, reads > forecast::need(page, n)));
         faults += words::one_if(kept_asking(page, n, !used_up(page, n)));
         n += 1;
     }
     Shares {
         asked,
         twofold,
+        foreseen,
         faults,
     }
 }
@@ -277,19 +294,23 @@ fn enter_decided(page: &mut [u64], offers: &[u8], verdicts: &[u8], steps: u32) -
     }
 }
 
-// The entry of a call that completes a period, and the next page, of the plan kept if there is one.
+// The entry of a call that completes a period, and the next page, of the plan kept if there is one; the bounds hold from its
+// first moment on.
 fn closed_entry(page: &mut [u64], faults: u32) -> Entry
     requires { ⌜ faults ≤ 3 ⌝ }
 {
     let entry = open_entry(page, faults);
     let shared = settled(page);
+    forecast::learn(page);
     waiting::take_force(page);
     start_page(page);
+    let fresh = bounds(page);
     Entry {
         complete: true,
         asked: shared.asked,
         twofold: shared.twofold,
-        faults: entry.faults + shared.faults,
+        foreseen: shared.foreseen,
+        faults: entry.faults + shared.faults + fresh,
     }
 }
 

@@ -1,7 +1,9 @@
 // A second implementation of the regulator, made plain and slow to compare the library with, and the ledger. A state and the
-// ledger's page are 374 words, counts 187, whose places `cells` states.
+// ledger's page are 476 words, counts 238, whose places `cells` states.
 mod calls;
 pub mod cells;
+pub mod floats;
+pub mod forecast;
 mod ledger;
 mod sums;
 mod verdict;

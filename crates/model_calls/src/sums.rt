@@ -1,9 +1,10 @@
 // Whether a state adds up, recomputed by plain addition.
-ghost use Prim.Native.Nat.{_<_, _≤_};
+ghost use Prim.Native.Nat.{_<_};
 use super::cells;
 use super::waiting;
 
-// Whether a domain's own numbers fit each other; those of an absent one, whose caps and reservations are 0, are then all 0.
+// Whether a domain's own numbers fit each other, and it is marked where it has an estimate; the numbers of an absent one, whose
+// caps and reservations are 0 and which has no mark, are then all 0.
 fn domain_fits(s: &[u64], n: usize) -> bool {
     let used = cells::get(s, n, cells::RESERVED) + cells::get(s, n, cells::YIELDED);
     if cells::get(s, n, cells::CLAIM) + used != cells::get(s, n, cells::Q) {
@@ -15,7 +16,18 @@ fn domain_fits(s: &[u64], n: usize) -> bool {
     if cells::get(s, n, cells::WRITEBACKS) > cells::get(s, n, cells::W) {
         return false;
     }
+    if estimated_unmarked(s, n) {
+        return false;
+    }
     cells::get(s, n, cells::WRITECLAIM) == cells::write_claim(s, n)
+}
+
+fn estimated_unmarked(s: &[u64], n: usize) -> bool {
+    if cells::get(s, n, cells::MARK) == 0 {
+        cells::get(s, n, cells::KIND) != 0
+    } else {
+        false
+    }
 }
 
 fn domains_fit(s: &[u64]) -> bool {

@@ -23,17 +23,18 @@ pub fn plans_fit(s: &[u64]) -> bool {
 }
 
 // Puts a plan in the place of whatever waits.
-pub fn put_waiting(s: &mut [u64], period: u32, domains: [u32; 80]) {
+pub fn put_waiting(s: &mut [u64], period: u32, domains: [u32; 96]) {
     cells::put(s, cells::NEXT, cells::WAITS, 1);
     cells::put_plan(s, cells::NEXT, period, domains);
 }
 
-// Whether a word of the rows in front is the plan's.
+// Whether a word of the rows in front is the plan's, or an estimate's: a plan that waits has none of these, and its zeros take
+// their place.
 fn is_plan(row: usize, column: usize) -> bool {
     if row == 0 {
         column == cells::PERIOD
     } else {
-        column <= cells::V
+        column <= cells::V || column >= cells::MARK
     }
 }
 

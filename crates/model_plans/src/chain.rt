@@ -6,7 +6,7 @@ use super::words;
 pub struct Walked {
     pub number: u32,
     pub place: u32,
-    pub domains: [u32; 80],
+    pub domains: [u32; 96],
 }
 
 // Whether two records are one record, or have the same domain number.
@@ -32,11 +32,12 @@ fn repeats(file: &[u8], steps: u32, index: u32, by_number: bool) -> bool {
     false
 }
 
-fn unlisted_zero(file: &[u8], index: u32) -> bool {
-    if record::zeros(file, index, 3, 4) {
-        record::zeros(file, index, 12, 16)
-    } else {
+// Whether a record's mark is 0 or 1, and its unlisted bytes are zero.
+fn rest_right(file: &[u8], index: u32) -> bool {
+    if record::byte(file, index, 3) > 1 {
         false
+    } else {
+        record::zeros(file, index, 12, 16)
     }
 }
 
@@ -75,7 +76,7 @@ fn record_fault(file: &[u8], steps: u32, index: u32, period: u32) -> u32 {
     if repeats(file, steps, index, true) {
         return 7;
     }
-    if unlisted_zero(file, index) {
+    if rest_right(file, index) {
         amounts_fault(file, index, period)
     } else {
         8
@@ -95,17 +96,19 @@ fn amounts_fault(file: &[u8], index: u32, period: u32) -> u32 {
     }
 }
 
-fn with_record(domains: [u32; 80], file: &[u8], index: u32) -> [u32; 80] {
+fn with_record(domains: [u32; 96], file: &[u8], index: u32) -> [u32; 96] {
     let q = record::number(file, index, 4);
     let r = record::number(file, index, 6);
     let w = record::number(file, index, 8);
     let v = record::number(file, index, 10);
-    words::with_domain(domains, record::byte(file, index, 2), q, r, w, v)
+    let domain = record::byte(file, index, 2);
+    let with = words::with_domain(domains, domain, q, r, w, v);
+    words::with_mark(with, domain, record::byte(file, index, 3))
 }
 
 // Follows the chain to its end or to the first refusal. No chain that is accepted has more records than a file.
 pub fn walk(file: &[u8], period: u32) -> Walked {
-    let mut domains = [0u32; 80];
+    let mut domains = [0u32; 96];
     let mut at = record::link(file, 0);
     let mut steps = 0;
     while steps < 64 {

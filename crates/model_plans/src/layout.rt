@@ -3,7 +3,7 @@ ghost use Prim.Native.Nat.{_<_, _≤_};
 use super::words;
 
 // The index of the record of a rank, or 0 where so many domains are not present.
-fn index_of(domains: [u32; 80], rank: u32) -> u32 {
+fn index_of(domains: [u32; 96], rank: u32) -> u32 {
     if words::ranked(domains, rank) == 0 {
         0
     } else {
@@ -12,7 +12,7 @@ fn index_of(domains: [u32; 80], rank: u32) -> u32 {
 }
 
 // The number of two bytes at an even offset of record 0.
-fn first_number(period: u32, domains: [u32; 80], offset: u32) -> u32 {
+fn first_number(period: u32, domains: [u32; 96], offset: u32) -> u32 {
     match offset {
         0 => period,
         2 => index_of(domains, 1),
@@ -20,14 +20,14 @@ fn first_number(period: u32, domains: [u32; 80], offset: u32) -> u32 {
     }
 }
 
-// The number of two bytes at an even offset of the record of a rank; byte 3, above the domain number, is 0.
-fn domain_number(domains: [u32; 80], rank: u32, offset: u32) -> u32
+// The number of two bytes at an even offset of the record of a rank; byte 3, above the domain number, is the mark.
+fn domain_number(domains: [u32; 96], rank: u32, offset: u32) -> u32
     requires { ⌜ rank < 65536 ⌝ }
 {
     let domain = words::ranked(domains, rank);
     match offset {
         0 => index_of(domains, rank + 1),
-        2 => domain,
+        2 => words::number_and_mark(domains, domain),
         4 => words::word(domains, domain, 1),
         6 => words::word(domains, domain, 2),
         8 => words::word(domains, domain, 3),
@@ -45,7 +45,7 @@ fn high(x: u32) -> u8 {
 }
 
 // Byte k of the file.
-fn byte_at(period: u32, domains: [u32; 80], k: u32) -> u8
+fn byte_at(period: u32, domains: [u32; 96], k: u32) -> u8
     requires { ⌜ k < 1024 ⌝ }
 {
     let record = k / 16;
@@ -63,7 +63,7 @@ fn byte_at(period: u32, domains: [u32; 80], k: u32) -> u8
 }
 
 // Puts the file's bytes into the buffer if they all fit; otherwise puts none.
-pub fn put_all(period: u32, domains: [u32; 80], bytes: u32, buffer: &mut [u8]) -> bool
+pub fn put_all(period: u32, domains: [u32; 96], bytes: u32, buffer: &mut [u8]) -> bool
     requires { ⌜ bytes ≤ 272 ⌝ }
 {
     if bytes as usize > buffer.len() {

@@ -1,6 +1,6 @@
 // A second implementation of plans, made plain and slow to compare the library with. A plan is a period and flat words: those
-// of domain n (1 to 16) stand at 5 * (n - 1): present (0 or 1), reservation Q, reclaim cap R, writeback cap W, and the
-// writeback reservation, here called V.
+// of domain n (1 to 16) stand at 6 * (n - 1): present (0 or 1), reservation Q, reclaim cap R, writeback cap W, the writeback
+// reservation, here called V, and its mark (0 or 1).
 mod along;
 mod chain;
 mod layout;
@@ -14,7 +14,7 @@ pub struct Answer {
     pub number: u32,
     pub place: u32,
     pub period: u32,
-    pub domains: [u32; 80],
+    pub domains: [u32; 96],
 }
 
 // What checking or writing a plan held as words tells; a refusal has 0 bytes.
@@ -29,7 +29,7 @@ fn refused(number: u32, place: u32) -> Answer {
         number,
         place,
         period: 0,
-        domains: [0; 80],
+        domains: [0; 96],
     }
 }
 
@@ -61,7 +61,7 @@ pub fn sums(file: &[u8]) -> Sums {
     along::of_file(file)
 }
 
-pub fn check(period: u32, domains: [u32; 80]) -> Told {
+pub fn check(period: u32, domains: [u32; 96]) -> Told {
     if period == 0 {
         return outcome(2, 0, 0);
     }
@@ -89,7 +89,7 @@ fn outcome(number: u32, place: u32, bytes: u32) -> Told {
     }
 }
 
-pub fn write(period: u32, domains: [u32; 80], buffer: &mut [u8]) -> Told {
+pub fn write(period: u32, domains: [u32; 96], buffer: &mut [u8]) -> Told {
     let checked = check(period, domains);
     if checked.number != 0 {
         return checked;

@@ -78,7 +78,7 @@ fn carried_out(l: Line, s: &mut [u64], offers: &[u8], counts: &mut [u64]) -> u32
 // A line is whole: it is carried out, and a period that it closes is printed.
 fn line_end(a: At, s: &mut [u64], offers: &[u8], out: &mut [u8]) -> At {
     let l = a.line;
-    let mut counts = [0u64; 187];
+    let mut counts = [0u64; 238];
     let before = cells::get(s, 0, cells::CLOSED);
     let number = carried_out(l, s, offers, &mut counts);
     let bytes = period_line(out, a.bytes, s, &counts, before);
@@ -185,7 +185,7 @@ pub fn replay(file: &[u8], script: &[u8], out: &mut [u8]) -> Ended {
         return refused_plan(out, a.number, a.place);
     }
     let domains = a.domains;
-    let mut s = [0u64; 374];
+    let mut s = [0u64; 476];
     model_calls::open(a.period, domains, &mut s);
     opened(script, &mut s, out)
 }

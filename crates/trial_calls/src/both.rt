@@ -172,8 +172,8 @@ fn model_call(words: &mut [u64], counts: &mut [u64], c: Call, p: Plan) -> Told {
 }
 
 pub fn answered(now: &mut [u64], counts: &mut [u64], c: Call) -> Outcome {
-    let mut words = [0u64; 374];
-    let mut due = [0u64; 187];
+    let mut words = [0u64; 476];
+    let mut due = [0u64; 238];
     let p = forms::plan_of(now, forms::GIVEN);
     forms::copy(&mut words, now);
     let model = model_call(&mut words, &mut due, c, p);
@@ -209,10 +209,40 @@ fn entered_plan(page: &mut [u64], p: Plan, opens: bool, refused: bool) -> Entry 
             complete: false,
             asked: 0,
             twofold: 0,
+            foreseen: 0,
             faults: 0,
         };
     }
     model_calls::enter_plan(page, refused, period, domains)
+}
+
+// Whether a word of a state is one that the ledger's page keeps too: slots decided, idle, best effort and steps; claims,
+// passes, yielded, writebacks, the mark and the estimate.
+fn is_kept(row: usize, column: usize) -> bool {
+    if row > 0 {
+        return column >= cells::CLAIM;
+    }
+    match column {
+        cells::DECIDED | cells::IDLE | cells::BEST | cells::STEPS => true,
+        _ => false,
+    }
+}
+
+// Whether the ledger's page, which has seen nothing of the state, keeps what the state holds after a call that is not refused.
+pub fn agree(page: &[u64], now: &[u64], number: u32) -> bool {
+    if number != 0 {
+        return true;
+    }
+    let mut k: usize = 0;
+    while k < cells::COUNTS {
+        if is_kept(k / cells::COLUMNS, k % cells::COLUMNS) {
+            if forms::word(page, k) != forms::word(now, k) {
+                return false;
+            }
+        }
+        k += 1;
+    }
+    true
 }
 
 // Feeds the ledger a call, the plan at hand, whether the library refused the call, and what it told.

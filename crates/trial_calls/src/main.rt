@@ -13,12 +13,12 @@ mod run;
 mod script;
 mod seen;
 
-const KINDS: u32 = 28;
+const KINDS: u32 = 32;
 
 fn start() -> Run {
     Run {
         tally: tally::start(),
-        seen: Seen { counts: [0; 86] },
+        seen: Seen { counts: [0; 130] },
         before: 0,
     }
 }

@@ -7,11 +7,7 @@ use trial_kit::report;
 use trial_kit::report::say;
 use trial_kit::tally::Tally;
 
-fn say_name(kind: u32) {
-    if kind == script::STATED {
-        say(b"stated cases");
-        return;
-    }
+fn say_kind(kind: u32) {
     lines::say_nth(
         b"openings of plans that are accepted\n\
         openings of plans with one fault, several or none\n\
@@ -40,9 +36,21 @@ fn say_name(kind: u32) {
         states whose waiting plan would be refused\n\
         states beside whose flag, which is off, lies a plan that would be refused\n\
         states with writebacks, their claims or reservations off\n\
-        runs with many writebacks and no writeback reservations\n",
+        runs with many writebacks and no writeback reservations\n\
+        states in their last slot with estimates of every sort\n\
+        states with an estimate of a domain that is not marked, or is\n\
+        runs of many periods with every domain marked\n\
+        runs with marked domains and plans handed in\n",
         kind as usize,
     );
+}
+
+fn say_name(kind: u32) {
+    if kind == script::STATED {
+        say(b"stated cases");
+    } else {
+        say_kind(kind);
+    }
 }
 
 pub fn kind_line(t: Tally, kind: u32) {

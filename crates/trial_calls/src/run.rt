@@ -4,6 +4,7 @@ use super::both::Outcome;
 use super::both::Told;
 use super::seen;
 use super::seen::Seen;
+use model_calls::Entry;
 use trial_kit::draw;
 use trial_kit::styles;
 use trial_kit::tally;
@@ -14,6 +15,7 @@ use trial_states::calls;
 use trial_states::calls::Call;
 use trial_states::changes;
 use trial_states::draws;
+use trial_states::estimates;
 use trial_states::forms;
 use trial_states::handing;
 use trial_states::marks;
@@ -57,19 +59,20 @@ fn with_plan(r: Run, words: &[u64], what: u8, number: u32) -> Run {
     after
 }
 
-// The run with what a slot call or a yield showed of such plans and of writebacks; an opening has no plan before it.
-fn with_marks(r: Run, words: &[u64], c: Call, t: Told) -> Run {
+// The run with what a slot call or a yield showed of such plans, of writebacks and of forecasts, where the page stands as the
+// state does after it; an opening has no plan before it.
+fn with_marks(r: Run, words: &[u64], page: &[u64], c: Call, t: Told) -> Run {
     let mut after = r;
     let so_far = r.seen;
     let verdicts = t.verdicts;
     let marks = marks::of_call(words, c, t.number, t.complete, r.before);
     let writes = writes::of_call(words, c, verdicts, t.number);
-    let more = seen::marked(
-        seen::marked(so_far, seen::CALLS, &marks),
-        seen::WRITES,
-        &writes,
-    );
-    after.seen = more;
+    let foreseen = estimates::of_call(words, page, c, t.number, t.complete);
+    let plans = seen::marked(so_far, seen::CALLS, &marks);
+    let written = seen::marked(plans, seen::WRITES, &writes);
+    let more = seen::marked(written, seen::FORECASTS, &foreseen);
+    let closed = seen::with_close(more, words, page, t.complete);
+    after.seen = closed;
     let what = c.what;
     match what {
         calls::OPEN => after.before = 0,
@@ -80,10 +83,44 @@ fn with_marks(r: Run, words: &[u64], c: Call, t: Told) -> Run {
     after
 }
 
-// The run after a call on a state of these words, entered into the ledger.
+// The run after a call on a state of these words, which are others now, and its entry in the ledger's page.
+fn with_entry(
+    r: Run,
+    words: &[u64],
+    now: &[u64],
+    page: &[u64],
+    counts: &[u64],
+    of: Case,
+    c: Call,
+    o: Outcome,
+    e: Entry,
+) -> Run {
+    let t = o.told;
+    let v = o.verdict;
+    let so_far = r.seen;
+    let verdict = Verdict {
+        number: v.number,
+        same: tally::both(
+            v.same,
+            tally::both(e.faults == 0, both::agree(page, now, t.number)),
+        ),
+    };
+    let mut after = counted(r, of, verdict);
+    let more = seen::with_call(so_far, c.what, t, e, counts, r.before != 0);
+    after.seen = more;
+    with_plan(
+        with_marks(after, words, page, c, t),
+        words,
+        c.what,
+        t.number,
+    )
+}
+
+// The run after a call, entered into the ledger.
 pub fn called(
     r: Run,
     words: &[u64],
+    now: &[u64],
     page: &mut [u64],
     counts: &[u64],
     of: Case,
@@ -91,21 +128,12 @@ pub fn called(
     o: Outcome,
 ) -> Run {
     let t = o.told;
-    let v = o.verdict;
-    let so_far = r.seen;
     let e = both::entered(page, words, counts, c, t);
-    let verdict = Verdict {
-        number: v.number,
-        same: tally::both(v.same, e.faults == 0),
-    };
-    let mut after = counted(r, of, verdict);
-    let more = seen::with_call(so_far, c.what, t, e, counts, r.before != 0);
-    after.seen = more;
-    with_plan(with_marks(after, words, c, t), words, c.what, t.number)
+    with_entry(r, words, now, page, counts, of, c, o, e)
 }
 
 // The run with a changed state more seen, whether it still adds up, where its sum of steps stands, what lies beside its flag,
-// and how its writeback claims stand.
+// how its writeback claims stand, and which estimates it has.
 fn with_change_seen(r: Run, words: &[u64], adds: bool) -> Run {
     let mut after = r;
     let so_far = r.seen;
@@ -116,7 +144,18 @@ fn with_change_seen(r: Run, words: &[u64], adds: bool) -> Run {
     let adding = seen::raised(changed, seen::ADDING, if adds { 1 } else { 0 });
     let edged = seen::raised(adding, seen::EDGES + sums::edge(words) % 5, 1);
     let laid = seen::marked(edged, seen::BESIDE, &marks);
-    let more = seen::marked(laid, seen::CLAIMS, &writes::of_change(words, adds));
+    let claims = seen::marked(laid, seen::CLAIMS, &writes::of_change(words, adds));
+    let more = seen::marked(claims, seen::ESTIMATES, &estimates::of_change(words, adds));
+    after.seen = more;
+    after
+}
+
+// The run with what a slot call on a changed state showed, where these are its words after it.
+fn with_change(r: Run, before: &[u64], words: &[u64], number: u32) -> Run {
+    let mut after = with_change_seen(r, before, number != 30);
+    let so_far = after.seen;
+    let complete = forms::word(before, 2) != forms::word(words, 2);
+    let more = seen::with_close(so_far, before, words, complete);
     after.seen = more;
     after
 }
@@ -130,7 +169,7 @@ fn drawn_call(
     seed: u32,
     what: u8,
 ) -> Verdict {
-    let mut counts = [0u64; 187];
+    let mut counts = [0u64; 238];
     handing::prepare(words, style, seed, what);
     forms::copy(before, words);
     let c = draws::call(before, style, of.seed, seed, what);
@@ -140,7 +179,7 @@ fn drawn_call(
 
 // The run after a drawn call on these words that no ledger is fed.
 fn with_other(r: Run, words: &mut [u64], of: Case, style: Style, seed: u32, what: u8) -> Run {
-    let mut before = [0u64; 561];
+    let mut before = [0u64; 714];
     let v = drawn_call(words, &mut before, of, style, seed, what);
     with_plan(counted(r, of, v), &before, what, v.number)
 }
@@ -148,14 +187,14 @@ fn with_other(r: Run, words: &mut [u64], of: Case, style: Style, seed: u32, what
 // A slot call on a changed state, a yield on what it answers, and a plan handed in on what that answers, for the kinds that
 // have such states; the run's own state stays.
 fn with_changed(r: Run, now: &[u64], of: Case, style: Style, seed: u32) -> Run {
-    let mut words = [0u64; 561];
-    let mut before = [0u64; 561];
+    let mut words = [0u64; 714];
+    let mut before = [0u64; 714];
     if !changes::has_kind(of.kind) {
         return r;
     }
     changes::put_changed(&mut words, now, of.kind, seed);
     let v = drawn_call(&mut words, &mut before, of, style, seed, calls::SLOT);
-    let one = with_change_seen(counted(r, of, v), &before, v.number != 30);
+    let one = with_change(counted(r, of, v), &before, &words, v.number);
     let two = with_other(
         one,
         &mut words,
@@ -169,11 +208,11 @@ fn with_changed(r: Run, now: &[u64], of: Case, style: Style, seed: u32) -> Run {
 
 // A call of a run, entered into the ledger.
 fn with_call(r: Run, now: &mut [u64], page: &mut [u64], of: Case, c: Call) -> Run {
-    let mut before = [0u64; 561];
-    let mut counts = [0u64; 187];
+    let mut before = [0u64; 714];
+    let mut counts = [0u64; 238];
     forms::copy(&mut before, now);
     let o = both::answered(now, &mut counts, c);
-    called(r, &before, page, &counts, of, c, o)
+    called(r, &before, now, page, &counts, of, c, o)
 }
 
 fn step(r: Run, now: &mut [u64], page: &mut [u64], of: Case, style: Style, i: u32) -> Run {
@@ -187,8 +226,8 @@ fn step(r: Run, now: &mut [u64], page: &mut [u64], of: Case, style: Style, i: u3
 
 // The opening of the case's plan, and then the steps of its style.
 pub fn tried(before: Run, of: Case, style: Style) -> Run {
-    let mut now = [0u64; 561];
-    let mut page = [0u64; 374];
+    let mut now = [0u64; 714];
+    let mut page = [0u64; 476];
     let p = styles::plan_of(style.plans, of.case, of.seed);
     forms::put_plan(&mut now, forms::GIVEN, p);
     let mut r = with_call(before, &mut now, &mut page, of, calls::opening());

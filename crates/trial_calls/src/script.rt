@@ -2,7 +2,8 @@
 //   case NAME                       a case begins
 //   plan PPPP                       the plan at hand: its period,
 //   domain NN QQQQ RRRR WWWW VVVV   each domain, V its writeback reservation,
-//   beside NN QQQQ RRRR WWWW VVVV   and numbers of a domain that is not planned
+//   beside NN QQQQ RRRR WWWW VVVV   numbers of a domain that is not planned,
+//   mark NN                         and a mark of a domain, planned or not, behind the domain's line
 //   open NN PPPP                    opening it tells this refusal and place
 //   give NN PPPP                    handing it in tells this refusal and place
 //   slot OFFERS VERDICTS NN SS      a slot call, the bytes of the buffer after it (9 before it), its refusal and its steps
@@ -13,10 +14,15 @@
 //   runs                            the plan at hand is in force
 //   waits F                         the plan at hand lies beside the flag, which is 1 where a plan waits
 //   lay F                           the plan at hand is put beside the flag, and the flag to this, in the ledger too
-//   has RR CC VVVVVVVVVV            the word of the state in this row and column of the model; the flag is 17 01
-//   entry RR CC VVVVVVVVVV          the same of the ledger's page, where 00 of a domain tells whether it kept asking, and 03 its
+//   has RR CC N                     the word of the state in this row and column of the model, of one to ten digits; the flag
+//                                   is 17 01
+//   entry RR CC N                   the same of the ledger's page, where 00 of a domain tells whether it kept asking, and 03 its
 //                                   writebacks on claim
-//   alter RR CC VVVVVVVVVV          that word is put to a value, in the ledger too
+//   alter RR CC N                   that word is put to a value, in the ledger too
+//   found NN E                      the state's estimate of a domain: `none`, `NaN`, or the bits of a float as up to sixteen
+//                                   hexadecimal digits, behind which zeros are left out (1 is 3ff0 or 3ff, 0 is 0)
+//   judged NN E                     the same of the ledger's page
+//   known NN E                      that estimate is put so, in the ledger too
 ghost use Prim.Native.Nat.{_≤_};
 use super::both;
 use super::both::Outcome;
@@ -120,10 +126,13 @@ fn refusal_at(letter: u8) -> usize {
     }
 }
 
-// The script after a call on a state of these words.
+// The script after a call of a line on a state of these words, which are others now.
 fn called(
     s: Script,
+    text: &[u8],
+    at: usize,
     words: &[u64],
+    now: &[u64],
     page: &mut [u64],
     counts: &[u64],
     c: Call,
@@ -133,10 +142,10 @@ fn called(
     let r = s.run;
     let of = s.of;
     let t = o.told;
-    let next = run::called(r, words, page, counts, of, c, o);
+    let next = run::called(r, words, now, page, counts, of, c, o);
     after.run = next;
     after.complete = t.complete;
-    after
+    call_stated(after, text, at, o)
 }
 
 fn call_line(
@@ -147,12 +156,11 @@ fn call_line(
     counts: &mut [u64],
     page: &mut [u64],
 ) -> Script {
-    let mut words = [0u64; 561];
+    let mut words = [0u64; 714];
     let c = call_of(text, at);
     forms::copy(&mut words, now);
     let o = both::answered(now, counts, c);
-    let after = called(s, &words, page, counts, c, o);
-    call_stated(after, text, at, o)
+    called(s, text, at, &words, now, page, counts, c, o)
 }
 
 // The refusal of a call, and the rest of its outcome.
@@ -188,10 +196,10 @@ fn row_told(c: &[u64], text: &[u8], at: usize) -> bool {
 
 // Whether the plan that begins at a word is the plan at hand.
 fn is_given(now: &[u64], from: usize) -> bool
-    requires { ⌜ from ≤ 187 ⌝ }
+    requires { ⌜ from ≤ 238 ⌝ }
 {
-    let mut found = [0u64; 187];
-    let mut given = [0u64; 187];
+    let mut found = [0u64; 238];
+    let mut given = [0u64; 238];
     forms::put_plan(&mut found, forms::FORCE, forms::plan_of(now, from));
     forms::put_plan(&mut given, forms::FORCE, forms::plan_of(now, forms::GIVEN));
     forms::same_words(&found, &given)
@@ -203,7 +211,36 @@ fn is_word(words: &[u64], text: &[u8], at: usize, offset: usize) -> bool
 {
     let row = lines::small(text, at, offset, 2) as usize;
     let column = lines::small(text, at, offset + 3, 2) as usize;
-    forms::word(words, 11 * row + column) == lines::number(text, at, offset + 6, 10)
+    forms::word(words, 14 * row + column) == lines::figure(text, at, offset + 6)
+}
+
+// An estimate that stands at an offset, as the model's kind and bits.
+struct Estimate {
+    kind: u64,
+    bits: u64,
+}
+
+fn estimate_at(text: &[u8], at: usize, offset: usize) -> Estimate {
+    match lines::byte(text, std::num::wrapping_add_usize(at, offset)) {
+        b'n' => Estimate { kind: 0, bits: 0 },
+        b'N' => Estimate { kind: 2, bits: 0 },
+        _ => Estimate {
+            kind: 1,
+            bits: lines::bits(text, at, offset),
+        },
+    }
+}
+
+// Whether the estimate of the domain that stands at an offset is the one behind it.
+fn is_estimate(words: &[u64], text: &[u8], at: usize, offset: usize) -> bool
+    requires { ⌜ offset ≤ 7 ⌝ }
+{
+    let row = lines::small(text, at, offset, 2) as usize;
+    let e = estimate_at(text, at, offset + 3);
+    tally::both(
+        forms::word(words, 14 * row + 12) == e.kind,
+        forms::word(words, 14 * row + 13) == e.bits,
+    )
 }
 
 // Whether the state, the ledger's page, or the counts of the last call, are as a line states.
@@ -222,18 +259,26 @@ fn holds(
         b'r' => is_given(now, forms::FORCE),
         b'w' => tally::both(flag, is_given(now, forms::NEXT)),
         b'e' => is_word(page, text, at, 6),
+        b'f' => is_estimate(now, text, at, 6),
+        b'j' => is_estimate(page, text, at, 7),
         _ => is_word(now, text, at, 4),
     }
 }
 
 // A domain of the plan at hand, planned or not.
 fn put_domain(text: &[u8], at: usize, now: &mut [u64], planned: u64) {
-    let row = forms::GIVEN + 11 * lines::small(text, at, 7, 2) as usize;
+    let row = forms::GIVEN + 14 * lines::small(text, at, 7, 2) as usize;
     forms::put(now, row, planned);
     forms::put(now, row + 1, lines::number(text, at, 10, 4));
     forms::put(now, row + 2, lines::number(text, at, 15, 4));
     forms::put(now, row + 3, lines::number(text, at, 20, 4));
     forms::put(now, row + 4, lines::number(text, at, 25, 4));
+    forms::put(now, row + 11, 0);
+}
+
+fn put_mark(text: &[u8], at: usize, now: &mut [u64]) {
+    let row = forms::GIVEN + 14 * lines::small(text, at, 5, 2) as usize;
+    forms::put(now, row + 11, 1);
 }
 
 // The plan at hand put beside the flag, and the flag.
@@ -244,11 +289,22 @@ fn lay(words: &mut [u64], p: Plan, flag: u64) {
 
 fn alter(text: &[u8], at: usize, now: &mut [u64], page: &mut [u64]) {
     let row = lines::small(text, at, 6, 2) as usize;
-    let k = 11 * row + lines::small(text, at, 9, 2) as usize;
-    let value = lines::number(text, at, 12, 10);
+    let k = 14 * row + lines::small(text, at, 9, 2) as usize;
+    let value = lines::figure(text, at, 12);
     forms::put(page, k, value);
     forms::put(now, k, value);
     forms::fit(now);
+}
+
+// The bits of a NaN become what the state makes of them.
+fn know(text: &[u8], at: usize, now: &mut [u64], page: &mut [u64]) {
+    let k = 14 * lines::small(text, at, 6, 2) as usize;
+    let e = estimate_at(text, at, 9);
+    forms::put(now, k + 12, e.kind);
+    forms::put(now, k + 13, e.bits);
+    forms::fit(now);
+    forms::put(page, k + 12, forms::word(now, k + 12));
+    forms::put(page, k + 13, forms::word(now, k + 13));
 }
 
 // A line that changes the plan at hand, or the state and the ledger.
@@ -264,6 +320,8 @@ fn put_line(text: &[u8], at: usize, now: &mut [u64], page: &mut [u64]) {
         ),
         b'd' => put_domain(text, at, now, 1),
         b'b' => put_domain(text, at, now, 0),
+        b'm' => put_mark(text, at, now),
+        b'k' => know(text, at, now, page),
         b'l' => {
             lay(now, p, flag);
             lay(page, p, flag);
@@ -306,7 +364,7 @@ fn line(
     match lines::byte(text, at) {
         b'c' => case_line(s, text, at),
         b'o' | b'g' | b's' | b'y' => call_line(s, text, at, now, counts, page),
-        b'p' | b'd' | b'b' | b'l' | b'a' => {
+        b'p' | b'd' | b'b' | b'm' | b'l' | b'a' | b'k' => {
             put_line(text, at, now, page);
             s
         }
@@ -316,9 +374,9 @@ fn line(
 
 // All cases of the text. Its last line begins a case without a name, so that the one before is printed.
 pub fn cases(before: Run, text: &[u8]) -> Run {
-    let mut now = [0u64; 561];
-    let mut counts = [0u64; 187];
-    let mut page = [0u64; 374];
+    let mut now = [0u64; 714];
+    let mut counts = [0u64; 238];
+    let mut page = [0u64; 476];
     let mut s = Script {
         run: before,
         of: Case {

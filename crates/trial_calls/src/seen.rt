@@ -1,4 +1,5 @@
 // What the runs came to: verdicts, slots, steps, periods and plans handed in, so that a program that does nothing is noticed.
+ghost use Prim.Native.Nat.{_≤_};
 use super::both::Told;
 use model_calls::Entry;
 use model_calls::cells;
@@ -6,10 +7,12 @@ use trial_kit::lines::say_nth;
 use trial_kit::report;
 use trial_kit::tally::both;
 use trial_states::calls;
+use trial_states::estimates;
 
-// How often verdicts 0 to 6 were told stands at 0 to 6, how often steps 0 to 17 at 68 to 85.
+// How often verdicts 0 to 6 were told stands at 0 to 6, how often steps 0 to 17 at 80 to 97, and behind them, by their sorts,
+// the estimates of marked domains before and after closes, and the needs that they leave.
 pub struct Seen {
-    pub counts: [u32; 86],
+    pub counts: [u32; 130],
 }
 
 pub const IDLE: usize = 7;
@@ -52,11 +55,26 @@ pub const WRITES: usize = 54;
 
 pub const CLAIMS: usize = 63;
 
-const STEPS: usize = 68;
+// What calls showed of forecasts, changed states by their estimates, and the domains that kept asking beside a forecast yield.
+pub const FORECASTS: usize = 68;
+
+pub const ESTIMATES: usize = 75;
+
+const FORESEEN: usize = 79;
+
+const STEPS: usize = 80;
+
+const BEFORE: usize = 98;
+
+const AFTER: usize = 112;
+
+const NEEDS: usize = 123;
+
+const COUNTS: usize = 130;
 
 pub fn raised(seen: Seen, k: usize, by: u32) -> Seen {
     let mut after = seen;
-    let at = k % 86;
+    let at = k % 130;
     let x = after.counts[at];
     if x < 1000000000 {
         after.counts[at] = x + by % 65536;
@@ -131,11 +149,41 @@ fn with_slot(seen: Seen, t: Told, counts: &[u64]) -> Seen {
     }
 }
 
+// A marked domain at a close, from the words before it and after: its estimates, and its need where it has one.
+fn with_marked(seen: Seen, before: &[u64], after: &[u64], row: usize) -> Seen {
+    if !estimates::is_marked(before, row) {
+        return seen;
+    }
+    let one = raised(seen, BEFORE + estimates::sort(before, row), 1);
+    let two = raised(one, AFTER + estimates::sort(after, row) % 11, 1);
+    if estimates::sort(after, row) == 0 {
+        two
+    } else {
+        raised(two, NEEDS + estimates::need(after, row), 1)
+    }
+}
+
+// The close of a period, if it is one.
+pub fn with_close(seen: Seen, before: &[u64], after: &[u64], complete: bool) -> Seen {
+    if !complete {
+        return seen;
+    }
+    let mut all = seen;
+    let mut row: usize = 1;
+    while row <= 16 {
+        let next = with_marked(all, before, after, row);
+        all = next;
+        row += 1;
+    }
+    all
+}
+
 // A call of a run and its entry in the ledger, under a plan that was handed in or not.
 pub fn with_call(seen: Seen, what: u8, t: Told, e: Entry, counts: &[u64], renewed: bool) -> Seen {
     let kept = raised(seen, RENEWED, if renewed { e.asked } else { 0 });
     let asked = raised(raised(kept, ASKED, e.asked), TWOFOLD, e.twofold);
-    let after = raised(asked, FAULTS, e.faults);
+    let foreseen = raised(asked, FORESEEN, e.foreseen);
+    let after = raised(foreseen, FAULTS, e.faults);
     if both(what == calls::SLOT, t.number == 0) {
         with_slot(after, t, counts)
     } else {
@@ -183,7 +231,7 @@ fn say_of_plans(k: usize) {
         plans taken that are the plan in force again\n\
         plans taken with a domain more than the plan in force\n\
         plans taken without a domain that has claim left\n\
-        plans taken with other numbers for a domain of the plan in force\n\
+        plans taken with other numbers or another mark for a domain of the plan in force\n\
         plans taken while claim, stock and writebacks stand\n\
         plans refused with 2, 9, 11 or 10 while another waits\n\
         plans refused with 30\n\
@@ -232,6 +280,25 @@ fn say_of_writes(k: usize) {
     );
 }
 
+// The lines of forecasts, from 0 on.
+fn say_of_forecasts(k: usize) {
+    say_nth(
+        b"periods that begin with a yield by forecast\n\
+        periods at whose end a new plan drops estimates\n\
+        periods at whose end the plan in force again drops them\n\
+        periods in which a marked domain has reclaimed before the last slot\n\
+        periods in which a marked domain has written back before the last slot\n\
+        yields taken of a domain that has yielded by forecast\n\
+        yields of such a domain refused with 23 that claim and yielded together would allow\n\
+        changed states with an estimate of a planned domain that is not marked\n\
+        changed states with an estimate of an absent domain\n\
+        changed states with estimates that add up\n\
+        changed states with an estimate that is a NaN that add up\n\
+        domains that have yielded by forecast and kept asking through a completed period\n",
+        k,
+    );
+}
+
 fn say_name(k: usize) {
     if k < PLANS {
         say_first(k);
@@ -239,20 +306,50 @@ fn say_name(k: usize) {
     }
     if k < TWOFOLD {
         say_of_plans(k - PLANS);
-    } else {
+        return;
+    }
+    if k < FORECASTS {
         say_of_writes(k - TWOFOLD);
+    } else {
+        say_of_forecasts(k - FORECASTS);
     }
 }
 
-// How often each number of steps was told.
-fn steps_line(seen: Seen) {
-    report::say(b"slots by their steps, 0 to 17:");
-    let mut k: usize = STEPS;
-    while k < 86 {
+// A name, and the counts from one to before another.
+fn say_row(seen: Seen, name: &[u8], from: usize, to: usize)
+    requires { ⌜ to ≤ 130 ⌝ }
+{
+    report::say(name);
+    let mut k = from;
+    while k < to {
         report::say_number(b" ", seen.counts[k]);
         k += 1;
     }
     report::say(b"\n");
+}
+
+// The counts that stand in rows: steps, estimates and needs.
+fn say_rows(seen: Seen) {
+    say_row(seen, b"slots by their steps, 0 to 17:", STEPS, BEFORE);
+    say_row(
+        seen,
+        b"estimates of marked domains before a close: none, NaN, 0, subnormal, negative, 4,096, whole, next above a whole \
+        number, next below, above Q, others, -0, infinite, -infinite:",
+        BEFORE,
+        AFTER,
+    );
+    say_row(
+        seen,
+        b"estimates after it, of the same sorts without the last three:",
+        AFTER,
+        NEEDS,
+    );
+    say_row(
+        seen,
+        b"needs by estimate: 0 of Q 0, 0 and 1 of Q 1, and of a larger Q none, some, all but one, all:",
+        NEEDS,
+        COUNTS,
+    );
 }
 
 pub fn lines(seen: Seen) {
@@ -263,5 +360,5 @@ pub fn lines(seen: Seen) {
         report::say(b"\n");
         k += 1;
     }
-    steps_line(seen);
+    say_rows(seen);
 }

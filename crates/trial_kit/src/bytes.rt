@@ -52,8 +52,8 @@ pub fn put_record(file: &mut [u8], record: u32, a: u32, b: u32, q: u32, r: u32, 
     put_pair(file, record, 14, 0);
 }
 
-// Of small fields: a link to one of eight records, a domain number to 17, Q, R and W to 7, a writeback reservation to 3; now
-// and then another byte.
+// Of small fields: a link to one of eight records, a domain number to 17, a mark, now and then of 2, Q, R and W to 7, a
+// writeback reservation to 3; now and then another byte.
 fn small_byte(drawn: u32, at: u32) -> u8 {
     let x = drawn / 256;
     match at % 16 {
@@ -64,8 +64,13 @@ fn small_byte(drawn: u32, at: u32) -> u8 {
         } else {
             draw::low(x % 18)
         },
+        3 => if at < 16 { 0 } else { small_mark(x) },
         _ => if x % 256 == 0 { draw::low(drawn) } else { 0 },
     }
+}
+
+fn small_mark(x: u32) -> u8 {
+    if x % 16 == 0 { 2 } else { draw::low(x % 2) }
 }
 
 fn filling(seed: u32, style: u32, at: u32) -> u8 {

@@ -1,4 +1,5 @@
-// Plan files given as text lines: a record more of six numbers, a byte, or the file's bytes. The first byte tells which.
+// Plan files given as text lines: a record more of six numbers, of which the second is a domain number, and 256 more where it
+// is marked; a byte; or the file's bytes. The first byte tells which.
 use super::bytes;
 use super::draw;
 use super::lines;

@@ -32,6 +32,53 @@ pub fn number(text: &[u8], at: usize, offset: usize, digits: usize) -> u64 {
     value
 }
 
+// The number at an offset of such a line, of as many digits as stand there.
+pub fn figure(text: &[u8], at: usize, offset: usize) -> u64 {
+    let mut digits: usize = 0;
+    while digits < 20 {
+        if !is_digit(byte(text, place(at, offset, digits))) {
+            break;
+        }
+        digits += 1;
+    }
+    number(text, at, offset, digits)
+}
+
+fn place(at: usize, offset: usize, k: usize) -> usize {
+    std::num::wrapping_add_usize(std::num::wrapping_add_usize(at, offset), k)
+}
+
+fn is_digit(b: u8) -> bool {
+    b >= b'0' && b <= b'9'
+}
+
+// The bits that the line's last digits are, up to sixteen hexadecimal ones, from the highest on; those left out are zeros.
+pub fn bits(text: &[u8], at: usize, offset: usize) -> u64 {
+    let end = line_end(text, at);
+    let mut value: u64 = 0;
+    let mut k: usize = 0;
+    while k < 16 {
+        value = value % 1152921504606846976 * 16 + nibble_at(text, place(at, offset, k), end);
+        k += 1;
+    }
+    value
+}
+
+// The digit at a place before the line's end, and 0 from there on. The low four bits of a figure's byte are the figure.
+fn nibble_at(text: &[u8], at: usize, end: usize) -> u64
+    ensures { λ r. ⌜ r < 16 ⌝ }
+{
+    let b = byte(text, at);
+    if at >= end {
+        return 0;
+    }
+    if is_digit(b) {
+        wide(b) % 16
+    } else {
+        (wide(b) + 9) % 16
+    }
+}
+
 pub fn small(text: &[u8], at: usize, offset: usize, digits: usize) -> u32
     ensures { λ r. ⌜ r < 65536 ⌝ }
 {

@@ -16,7 +16,7 @@ fn wrong(seed: u32, salt: u32, most: u32) -> u32 {
 // One of Q, R, W and V of one domain put to such a value, of which P is the most, and for V the domain's W.
 fn damaged(p: Plan, seed: u32, salt: u32) -> Plan {
     let which = draw::upto(seed, salt, 63);
-    let k = which / 4 * 5 + which % 4 + 1;
+    let k = which / 4 * 6 + which % 4 + 1;
     let most = if which % 4 == 3 {
         values::word(p, k - 1)
     } else {
@@ -25,13 +25,13 @@ fn damaged(p: Plan, seed: u32, salt: u32) -> Plan {
     values::with_word(p, k, wrong(seed, std::num::wrapping_add_u32(salt, 1), most))
 }
 
-// A domain made absent, and one of its numbers put above zero.
+// A domain made absent, and one of its numbers put above zero, or its mark to yes.
 fn absent(p: Plan, seed: u32) -> Plan {
-    let k = draw::upto(seed, 20, 15) * 5;
+    let k = draw::upto(seed, 20, 15) * 6;
     let without = values::with_word(p, k, 0);
     values::with_word(
         without,
-        k + 1 + draw::upto(seed, 21, 3),
+        k + 1 + draw::upto(seed, 21, 4),
         1 + draw::upto(seed, 22, 65534),
     )
 }
@@ -73,7 +73,7 @@ fn no_period(seed: u32) -> u32 {
 
 // One of Q, R and W of a domain that is planned put just above P, or to the most that it holds.
 fn above(p: Plan, domain: u32, seed: u32) -> Plan {
-    let k = domain % 16 * 5;
+    let k = domain % 16 * 6;
     let value = if draw::upto(seed, 72, 1) == 0 {
         65535
     } else {
@@ -85,7 +85,7 @@ fn above(p: Plan, domain: u32, seed: u32) -> Plan {
 
 // V of a domain that is planned put just above its W, to P + 1, or to the most that it holds.
 fn above_cap(p: Plan, domain: u32, seed: u32) -> Plan {
-    let k = domain % 16 * 5;
+    let k = domain % 16 * 6;
     let value = match draw::upto(seed, 75, 3) {
         0 => 65535,
         1 => values::wide(p.period) + 1,
@@ -94,8 +94,30 @@ fn above_cap(p: Plan, domain: u32, seed: u32) -> Plan {
     values::with_word(values::with_word(p, k, 1), k + 4, value)
 }
 
-// A plan, accepted before, that is refused with 2 (way 0), with 9 for a planned domain (1) or for an absent one (2), with 11
-// (3), or else with 10, of Q alone or of one Q and one V.
+// The plan without a domain.
+pub fn without(p: Plan, domain: u32) -> Plan {
+    let zeros = values::with_numbers(p, domain, 0, 0, 0, 0);
+    values::with_word(values::with_mark(zeros, domain, false), domain % 16 * 6, 0)
+}
+
+// The plan without a domain, whose mark alone is left.
+fn mark_left(p: Plan, domain: u32) -> Plan {
+    values::with_mark(without(p, domain), domain, true)
+}
+
+// The same for each domain in turn, and now and then with another fault too.
+fn marks_left(p: Plan, case: u32, seed: u32) -> Plan {
+    let left = mark_left(p, case);
+    match draw::upto(seed, 64, 7) {
+        0 => damaged(left, seed, 65),
+        1 => above_cap(left, draw::upto(seed, 68, 15), seed),
+        2 => mark_left(left, draw::upto(seed, 68, 15)),
+        _ => left,
+    }
+}
+
+// A plan, accepted before, that is refused with 2 (way 0), with 9 for a planned domain (1), for an absent one (2) or for the
+// mark of such a one (4), with 11 (3), or else with 10, of Q alone or of one Q and one V.
 pub fn spoiled(p: Plan, way: u32, seed: u32) -> Plan {
     let n = draw::upto(seed, 74, 14);
     let period = values::wide(p.period);
@@ -104,6 +126,7 @@ pub fn spoiled(p: Plan, way: u32, seed: u32) -> Plan {
         1 => above(p, n, seed),
         2 => absent(p, seed),
         3 => above_cap(p, n, seed),
+        4 => mark_left(p, n),
         _ => {
             let one = draw::upto(seed, 76, 1);
             let whole = values::with_numbers(p, n, period, 0, period, 0);
@@ -133,7 +156,8 @@ fn reserved_writebacks(p: Plan, case: u32, seed: u32) -> Plan {
 }
 
 // A plan that is damaged in one number (0), has a number in an absent domain (1), several faults (2), sums of both
-// reservations around P and 65,536 (3), any period (4), or V around W (6), or else is accepted.
+// reservations around P and 65,536 (3), any period (4), V around W (6), or the mark of an absent domain (7), or else is
+// accepted.
 pub fn made(way: u32, case: u32, seed: u32) -> Plan {
     let good = values::drawn(seed, values::GOOD);
     match way {
@@ -143,6 +167,7 @@ pub fn made(way: u32, case: u32, seed: u32) -> Plan {
         3 => values::summed(seed, case),
         4 => periods(good, case, seed),
         6 => reserved_writebacks(good, case, seed),
+        7 => marks_left(good, case, seed),
         _ => good,
     }
 }

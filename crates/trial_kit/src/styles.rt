@@ -5,7 +5,8 @@ use super::values;
 use plan::Plan;
 
 // The styles: accepted and refused values, P 1, P 2 to 40, P 4,096, no domains, sixteen domains, all Q zero, sums
-// of both reservations equal to P, P 1 to 8, and P 2 to 20 with no writeback reservations, as older plans have.
+// of both reservations equal to P, P 1 to 8, P 2 to 20 with no writeback reservations, as older plans have, and P 2 to 16 with
+// every domain marked.
 pub const ACCEPTED: u32 = 0;
 
 pub const REFUSED: u32 = 1;
@@ -28,6 +29,8 @@ pub const LEAST: u32 = 9;
 
 pub const OLDER: u32 = 10;
 
+pub const MARKED: u32 = 11;
+
 // Plans with few large or with many small reservations.
 fn mixed(seed: u32, period: u32) -> Plan {
     if draw::upto(seed, 5, 2) == 0 {
@@ -49,21 +52,29 @@ fn older(p: Plan) -> Plan {
     after
 }
 
+// The plan with each domain marked that it has.
+fn marked(p: Plan) -> Plan {
+    let mut after = p;
+    let planned = p.planned;
+    after.marked = planned;
+    after
+}
+
 // P 1, where a reservation of 1, of either kind, is the whole period.
 fn of_one_slot(seed: u32, case: u32) -> Plan {
     let without = older(unreserved(values::drawn_in(seed, values::WHOLE, 1)));
     let n = draw::upto(seed, 6, 15);
     match case % 3 {
         0 => mixed(seed, 1),
-        1 => values::with_word(without, n * 5 + 1, 1),
+        1 => values::with_word(without, n * 6 + 1, 1),
         _ => values::with_numbers(without, n, 0, draw::upto(seed, 7, 1), 1, 1),
     }
 }
 
 // The plan with Q of domain 16, which has all that the others left, lowered to a number where it is above.
 fn lowered(p: Plan, most: u32) -> Plan {
-    if values::word(p, 76) > most {
-        values::with_word(p, 76, most)
+    if values::word(p, 91) > most {
+        values::with_word(p, 91, most)
     } else {
         p
     }
@@ -73,7 +84,7 @@ fn lowered(p: Plan, most: u32) -> Plan {
 pub fn plan_of(style: u32, case: u32, seed: u32) -> Plan {
     match style {
         0 => values::drawn(seed, values::GOOD),
-        1 => plans::made(case % 7, case / 7, seed),
+        1 => plans::made(case % 8, case / 8, seed),
         2 => of_one_slot(seed, case),
         3 => mixed(seed, 2 + draw::upto(seed, 4, 38)),
         4 => mixed(seed, 4096),
@@ -85,6 +96,7 @@ pub fn plan_of(style: u32, case: u32, seed: u32) -> Plan {
         7 => unreserved(mixed(seed, 2 + draw::upto(seed, 4, 20))),
         8 => values::drawn_in(seed, values::WHOLE, 2 + draw::upto(seed, 4, 38)),
         9 => mixed(seed, 1 + draw::upto(seed, 4, 7)),
-        _ => older(mixed(seed, 2 + draw::upto(seed, 4, 18))),
+        10 => older(mixed(seed, 2 + draw::upto(seed, 4, 18))),
+        _ => marked(mixed(seed, 2 + draw::upto(seed, 4, 14))),
     }
 }

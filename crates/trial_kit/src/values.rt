@@ -29,30 +29,37 @@ fn one_if(b: bool) -> u32 {
     if b { 1 } else { 0 }
 }
 
-// Word k of a plan as the model has it: at 5 * (n - 1) present, Q, R, W and the writeback reservation V of domain n.
+// Word k of a plan as the model has it: at 6 * (n - 1) present, Q, R, W, the writeback reservation V and the mark of domain n.
 pub fn word(p: Plan, k: u32) -> u32 {
-    let i = (k / 5 % 16) as usize;
-    match k % 5 {
+    let i = (k / 6 % 16) as usize;
+    match k % 6 {
         0 => one_if(p.planned[i]),
         1 => wide(p.reservation[i]),
         2 => wide(p.reclaimcap[i]),
         3 => wide(p.writebackcap[i]),
-        _ => wide(p.writebackreservation[i]),
+        4 => wide(p.writebackreservation[i]),
+        _ => one_if(p.marked[i]),
     }
 }
 
 // The plan with word k put to a value.
 pub fn with_word(p: Plan, k: u32, value: u32) -> Plan {
     let mut after = p;
-    let i = (k / 5 % 16) as usize;
-    match k % 5 {
+    let i = (k / 6 % 16) as usize;
+    match k % 6 {
         0 => after.planned[i] = value != 0,
         1 => after.reservation[i] = narrow(value),
         2 => after.reclaimcap[i] = narrow(value),
         3 => after.writebackcap[i] = narrow(value),
-        _ => after.writebackreservation[i] = narrow(value),
+        4 => after.writebackreservation[i] = narrow(value),
+        _ => after.marked[i] = value != 0,
     }
     after
+}
+
+// The plan with the mark of domain n + 1 put to yes or no.
+pub fn with_mark(p: Plan, n: u32, mark: bool) -> Plan {
+    with_word(p, n % 16 * 6 + 5, one_if(mark))
 }
 
 pub fn with_period(p: Plan, period: u32) -> Plan {
@@ -61,10 +68,10 @@ pub fn with_period(p: Plan, period: u32) -> Plan {
     after
 }
 
-pub fn words(p: Plan) -> [u32; 80] {
-    let mut all = [0u32; 80];
+pub fn words(p: Plan) -> [u32; 96] {
+    let mut all = [0u32; 96];
     let mut k: u32 = 0;
-    while k < 80 {
+    while k < 96 {
         all[k as usize] = word(p, k);
         k += 1;
     }
@@ -72,10 +79,10 @@ pub fn words(p: Plan) -> [u32; 80] {
 }
 
 // The plan of this period and these words.
-pub fn plan_of(period: u32, words: [u32; 80]) -> Plan {
+pub fn plan_of(period: u32, words: [u32; 96]) -> Plan {
     let mut p = with_period(nothing(), period);
     let mut k: u32 = 0;
-    while k < 80 {
+    while k < 96 {
         let next = with_word(p, k, words[k as usize]);
         p = next;
         k += 1;
@@ -106,6 +113,7 @@ pub fn nothing() -> Plan {
         reclaimcap: [0; 16],
         writebackcap: [0; 16],
         writebackreservation: [0; 16],
+        marked: [false; 16],
     }
 }
 
@@ -170,9 +178,9 @@ struct Draft {
     left: u32,
 }
 
-// The plan with domain n + 1, of these numbers.
+// The plan with domain n + 1, of these numbers; its mark stays.
 pub fn with_numbers(p: Plan, n: u32, q: u32, r: u32, w: u32, v: u32) -> Plan {
-    let k = n % 16 * 5;
+    let k = n % 16 * 6;
     let present = with_word(p, k, 1);
     let reserved = with_word(present, k + 1, q);
     let capped = with_word(reserved, k + 2, r);
@@ -208,6 +216,15 @@ fn with_share(p: Plan, n: u32, seed: u32, all: u32, r: u32, w: u32) -> Plan {
     )
 }
 
+// Whether a domain is marked: none is in every third plan, and all are in another third.
+fn is_marked(seed: u32, n: u32) -> bool {
+    match draw::upto(seed, 9, 2) {
+        0 => false,
+        1 => true,
+        _ => draw::upto(seed, std::num::wrapping_add_u32(n, 1000), 1) == 0,
+    }
+}
+
 fn with_domain(d: Draft, seed: u32, style: u32, n: u32) -> Draft {
     if left_out(seed, style, n) {
         return d;
@@ -219,7 +236,7 @@ fn with_domain(d: Draft, seed: u32, style: u32, n: u32) -> Draft {
     let r = amount(seed, std::num::wrapping_add_u32(n, 300), period);
     let w = amount(seed, std::num::wrapping_add_u32(n, 400), period);
     Draft {
-        plan: with_share(p, n, seed, all, r, w),
+        plan: with_mark(with_share(p, n, seed, all, r, w), n, is_marked(seed, n)),
         left: if all <= left { left - all } else { 0 },
     }
 }
@@ -248,14 +265,14 @@ pub fn drawn_in(seed: u32, style: u32, period: u32) -> Plan {
 pub fn summed(seed: u32, case: u32) -> Plan {
     match case % 3 {
         0 => drawn(seed, WHOLE),
-        1 => with_one_more(drawn(seed, WHOLE), draw::upto(seed, 4, 15) * 5, case / 3),
+        1 => with_one_more(drawn(seed, WHOLE), draw::upto(seed, 4, 15) * 6, case / 3),
         _ => drawn(seed, FULL),
     }
 }
 
 // The plan with one more reserved by the domain whose words begin at k: its Q, or its V, and then its W where both are equal.
 fn with_one_more(p: Plan, k: u32, way: u32) -> Plan
-    requires { ⌜ k < 80 ⌝ }
+    requires { ⌜ k < 96 ⌝ }
 {
     if way % 2 == 0 {
         return with_more(p, k + 1);

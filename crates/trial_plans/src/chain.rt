@@ -34,18 +34,23 @@ pub fn link_offset(record: u32) -> u32 {
 
 // The record of a domain, with no link behind it.
 fn put_domain(file: &mut [u8], p: Plan, record: u32, domain: u32) {
-    let k = domain % 16 * 5;
+    let k = domain % 16 * 6;
     let q = values::word(p, k + 1);
     let r = values::word(p, k + 2);
     let w = values::word(p, k + 3);
     let v = values::word(p, k + 4);
     bytes::put_record(file, record, 0, domain % 16 + 1, q, r, w, v);
+    bytes::put(
+        file,
+        bytes::place(record, 3),
+        draw::low(values::word(p, k + 5)),
+    );
 }
 
 // Lays one domain at the chain's end, if it is planned and a record is left.
 fn with_domain(file: &mut [u8], p: Plan, order: [u32; 64], l: Laid, domain: u32) -> Laid {
     let used = l.used;
-    if values::word(p, domain % 16 * 5) == 0 {
+    if values::word(p, domain % 16 * 6) == 0 {
         return l;
     }
     if used < l.most {

@@ -71,7 +71,7 @@ fn same_writing(w: Writing, t: Told) -> bool {
     )
 }
 
-fn same_check(p: Plan, period: u32, domains: [u32; 80]) -> bool {
+fn same_check(p: Plan, period: u32, domains: [u32; 96]) -> bool {
     let r = plan::check(p);
     let t = model_plans::check(period, domains);
     all3(
@@ -82,7 +82,7 @@ fn same_check(p: Plan, period: u32, domains: [u32; 80]) -> bool {
 }
 
 // What reading back a plan that was written has to answer: the plan, or the refusal of writing.
-fn expected(t: Told, period: u32, domains: [u32; 80]) -> Answer {
+fn expected(t: Told, period: u32, domains: [u32; 96]) -> Answer {
     if t.number == 0 {
         Answer {
             number: 0,
@@ -95,7 +95,7 @@ fn expected(t: Told, period: u32, domains: [u32; 80]) -> Answer {
             number: t.number,
             place: t.place,
             period: 0,
-            domains: [0; 80],
+            domains: [0; 96],
         }
     }
 }
@@ -105,7 +105,7 @@ fn library_writes(p: Plan, buffer: &mut [u8], size: usize) -> Writing {
     plan::write(p, &mut buffer[0..lent])
 }
 
-fn model_writes(period: u32, domains: [u32; 80], buffer: &mut [u8], size: usize) -> Told {
+fn model_writes(period: u32, domains: [u32; 96], buffer: &mut [u8], size: usize) -> Told {
     let lent = bytes::least(size, buffer.len());
     model_plans::write(period, domains, &mut buffer[0..lent])
 }
@@ -137,7 +137,7 @@ fn filled(seed: u32) -> [u8; 320] {
 }
 
 // Writing, into equal buffers of which the first bytes are lent.
-fn written(p: Plan, domains: [u32; 80], size: usize, seed: u32) -> Verdict {
+fn written(p: Plan, domains: [u32; 96], size: usize, seed: u32) -> Verdict {
     let mut a = filled(seed);
     let mut b = filled(seed);
     let period = values::wide(p.period);
@@ -151,7 +151,7 @@ fn written(p: Plan, domains: [u32; 80], size: usize, seed: u32) -> Verdict {
 }
 
 // Writing and reading back, in the same way.
-fn returned(p: Plan, domains: [u32; 80], size: usize, seed: u32) -> bool {
+fn returned(p: Plan, domains: [u32; 96], size: usize, seed: u32) -> bool {
     let mut a = filled(seed);
     let mut b = filled(seed);
     let period = values::wide(p.period);

@@ -4,8 +4,8 @@ use super::chain::Chain;
 use trial_kit::bytes;
 use trial_kit::draw;
 
-// The faults by number: 8 of a link, then 5 of a domain number, 5 of a byte that has to be zero, 9 of Q, R and W, and 5 of the
-// writeback reservation.
+// The faults by number: 8 of a link, then 5 of a domain number, 5 of a mark and of a byte that has to be zero, 9 of Q, R and W,
+// 5 of the writeback reservation, and 6 of a mark, of which the last two are none.
 pub const LINKS: u32 = 0;
 
 pub const NUMBERS: u32 = 8;
@@ -16,7 +16,9 @@ pub const AMOUNTS: u32 = 18;
 
 pub const WRITES: u32 = 27;
 
-pub const ALL: u32 = 32;
+pub const MARKS: u32 = 32;
+
+pub const ALL: u32 = 38;
 
 // Where a link leads: mostly to no record or back on the chain, now and then where it may.
 fn bad_link(c: Chain, record: u32, fault: u32, seed: u32) -> u32 {
@@ -67,9 +69,25 @@ fn damage_number(file: &mut [u8], c: Chain, record: u32, fault: u32, seed: u32) 
     bytes::put(file, bytes::place(record, 2), number);
 }
 
+// A byte that draws 8: from 1 on, or from 2 on for a mark.
 fn damage_unlisted(file: &mut [u8], record: u32, fault: u32, seed: u32) {
-    let b = draw::low(1 + draw::upto(seed, 704, 254));
-    bytes::put(file, bytes::place(record, unlisted_offset(fault)), b);
+    let offset = unlisted_offset(fault);
+    let drawn = draw::upto(seed, 704, if offset == 3 { 253 } else { 254 });
+    let b = draw::low(std::num::wrapping_sub_u32(255, drawn));
+    bytes::put(file, bytes::place(record, offset), b);
+}
+
+// The mark put to 2, 3, 128 or 255, to 1, or to 0.
+fn damage_mark(file: &mut [u8], record: u32, which: u32) {
+    let b = match which {
+        0 => 2,
+        1 => 3,
+        2 => 128,
+        3 => 255,
+        4 => 1,
+        _ => 0,
+    };
+    bytes::put(file, bytes::place(record, 3), b);
 }
 
 // One of Q, R and W put to one of three.
@@ -116,7 +134,11 @@ pub fn damage(file: &mut [u8], c: Chain, record: u32, fault: u32, seed: u32) {
         damage_amount(file, c.period, record, fault - AMOUNTS);
         return;
     }
-    damage_reservation(file, c.period, record, fault - WRITES);
+    if fault < MARKS {
+        damage_reservation(file, c.period, record, fault - WRITES);
+        return;
+    }
+    damage_mark(file, record, fault - MARKS);
 }
 
 // A record of the chain; record 1 or another off it where the chain is empty.

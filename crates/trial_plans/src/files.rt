@@ -166,14 +166,15 @@ fn small(file: &mut [u8], seed: u32) -> u32 {
     16 + 16 * draw::upto(seed, 5, 8)
 }
 
-// The fault of a case of the kinds 5 to 8 and 26, one sort each.
+// The fault of a case of the kinds 5 to 8, 26 and 28, one sort each.
 fn fault_of(kind: u32, case: u32) -> u32 {
     match kind {
         5 => faults::LINKS + case % 8,
         6 => faults::NUMBERS + case % 5,
         7 => faults::UNLISTED + case % 5,
         8 => faults::AMOUNTS + case % 9,
-        _ => faults::WRITES + case % 5,
+        26 => faults::WRITES + case % 5,
+        _ => faults::MARKS + case % 6,
     }
 }
 
@@ -199,7 +200,7 @@ fn filling_of(kind: u32) -> u32 {
 // Puts the file of a case and answers its length.
 pub fn put(file: &mut [u8], kind: u32, case: u32, seed: u32) -> u32 {
     match kind {
-        1..=8 | 26 => put_laid(file, kind, case, seed),
+        1..=8 | 26 | 28 => put_laid(file, kind, case, seed),
         9 => sums(file, case, seed),
         10 | 11 => two_faults(file, kind == 11, seed),
         12 => one_byte(file, case, seed),

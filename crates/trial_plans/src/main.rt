@@ -10,6 +10,7 @@ mod chain;
 mod compare;
 mod faults;
 mod files;
+mod marks;
 mod places;
 mod plans;
 mod report;
@@ -17,8 +18,8 @@ mod seen;
 mod stated;
 mod writes;
 
-// Kind 0 are the stated cases; the kinds 16 to 22 and 27 are of plan values, all others of files.
-const KINDS: u32 = 28;
+// Kind 0 are the stated cases; the kinds 16 to 22, 27 and 29 are of plan values, all others of files.
+const KINDS: u32 = 30;
 
 // How many cases each kind has.
 fn cases(kind: u32) -> u32 {
@@ -33,35 +34,37 @@ fn cases(kind: u32) -> u32 {
         16..=19 => 1800,
         23 | 24 => 3808,
         25 => 1700,
-        26 | 27 => 2000,
+        26..=29 => 2000,
         _ => 1400,
     }
 }
 
-// A file, compared, also with what is known of it.
-fn tried(kind: u32, case: u32, file: &[u8], seed: u32) -> Outcome {
+// A file, counted, and compared, also with what is known of it.
+fn tried(kind: u32, case: u32, file: &[u8], seed: u32, seen: &mut [u32]) -> Outcome {
+    marks::count_file(file, seen);
     let v = compare::file(file, seed, places::holds(file, kind, case));
     seen::of_file(file, v)
 }
 
-fn try_file(kind: u32, case: u32, seed: u32) -> Outcome {
+fn try_file(kind: u32, case: u32, seed: u32, seen: &mut [u32]) -> Outcome {
     let mut file = [0u8; 1040];
     let bytes = files::put(&mut file, kind, case, seed) as usize;
     let size = least(bytes, 1040);
-    tried(kind, case, &file[0..size], seed)
+    tried(kind, case, &file[0..size], seed, seen)
 }
 
 fn try_value(kind: u32, case: u32, seed: u32, seen: &mut [u32]) -> Outcome {
     let p = plans::made(kind, case, seed);
     writes::count(p, seen);
+    marks::count_value(p, seen);
     seen::of_value(compare::value(p, plans::lent(p, kind, case), seed))
 }
 
 fn try_case(kind: u32, case: u32, seen: &mut [u32]) -> Outcome {
     let seed = draw::draw(kind, case);
     match kind {
-        16..=22 | 27 => try_value(kind, case, seed, seen),
-        _ => try_file(kind, case, seed),
+        16..=22 | 27 | 29 => try_value(kind, case, seed, seen),
+        _ => try_file(kind, case, seed, seen),
     }
 }
 
@@ -92,7 +95,7 @@ fn try_kinds(before: Tally, seen: &mut [u32]) -> Tally {
 
 // The stated cases and those of all kinds, given the text that states them.
 fn try_all(given: &[u8]) {
-    let mut seen = [0u32; 176];
+    let mut seen = [0u32; 180];
     let before = stated::cases(tally::start(), given, &mut seen);
     let t = try_kinds(before, &mut seen);
     seen::lines(&seen);

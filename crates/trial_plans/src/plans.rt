@@ -4,12 +4,12 @@ use plan::Plan;
 use trial_kit::plans;
 use trial_kit::values;
 
-// The plan of a case of the kinds 16 to 22 and 27; those of 16 and 22 are accepted.
+// The plan of a case of the kinds 16 to 22, 27 and 29; those of 16 and 22 are accepted.
 pub fn made(kind: u32, case: u32, seed: u32) -> Plan {
-    let way = if kind == 27 {
-        6
-    } else {
-        std::num::wrapping_sub_u32(kind, 17)
+    let way = match kind {
+        27 => 6,
+        29 => 7,
+        _ => std::num::wrapping_sub_u32(kind, 17),
     };
     plans::made(way, case, seed)
 }

@@ -13,7 +13,7 @@ fn say_name(kind: u32) {
         chains in any order\n\
         links\n\
         domain numbers\n\
-        byte 3 and bytes 12 to 15\n\
+        byte 3 of 2 and up, and bytes 12 to 15\n\
         Q, R and W around P\n\
         sums of both reservations around P, and 65,536\n\
         two faults in one record\n\
@@ -24,7 +24,7 @@ fn say_name(kind: u32) {
         records of small fields\n\
         plan values that are accepted\n\
         plan values with one number damaged\n\
-        plan values with a number in an absent domain\n\
+        plan values with a number or a mark in an absent domain\n\
         plan values with several faults\n\
         plan values with sums of both reservations around P, and 65,536\n\
         plan values of any period\n\
@@ -33,7 +33,9 @@ fn say_name(kind: u32) {
         sums that mostly pass P, and a fault of 4 to 9 or 11\n\
         chains of each length, and no fault\n\
         writeback reservations around W\n\
-        plan values with writeback reservations around W\n",
+        plan values with writeback reservations around W\n\
+        marks of 0, 1, and more\n\
+        plan values with the mark of an absent domain\n",
         kind as usize,
     );
 }

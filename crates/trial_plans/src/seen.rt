@@ -24,11 +24,13 @@ const MOST: usize = 157;
 
 const OTHER: usize = 158;
 
-// Those of plan values, which `writes` counts.
+// Those of plan values, which `writes` counts, and of marks, which `marks` counts.
 pub const WRITES: usize = 159;
 
+pub const MARKS: usize = 168;
+
 // No count.
-const NONE: usize = 176;
+const NONE: usize = 180;
 
 // A case compared: how many records were taken, the count of where the walk ended, and that of its sums.
 pub struct Outcome {
@@ -140,14 +142,20 @@ fn say_name(k: usize) {
         writeback reservations of plan values: none, below W, W, W + 1, more, above P\n\
         plan values refused with 9 though a domain of a lower number draws 11\n\
         plan values refused with 11 for a writeback reservation of at most P\n\
-        plan values refused with 10 whose Q alone come to at most P\n",
+        plan values refused with 10 whose Q alone come to at most P\n\
+        marked domains of plan values that are accepted\n\
+        plan values refused with 9 at a domain that has a mark alone\n\
+        plan values with such a domain that are refused with 9 at a lower one\n\
+        marked domains of files that are accepted\n\
+        files refused with 8 for a mark of 2 alone\n\
+        files refused with 8 for a larger mark alone\n",
         k,
     );
 }
 
 // A name, and so many counts from one on.
 fn say_counts(seen: &[u32], name: usize, from: usize, counts: usize)
-    requires { ⌜ (from < 176) × (counts < 176) ⌝ }
+    requires { ⌜ (from < 180) × (counts < 180) ⌝ }
 {
     say_name(name);
     report::say(b":");
@@ -173,9 +181,9 @@ fn width(name: usize) -> usize
 pub fn lines(seen: &[u32]) {
     let mut from: usize = 0;
     let mut name: usize = 0;
-    while name < 19 {
+    while name < 25 {
         let counts = width(name);
-        say_counts(seen, name, from % 176, counts);
+        say_counts(seen, name, from % 180, counts);
         from = std::num::wrapping_add_usize(from, counts);
         name += 1;
     }

@@ -1,12 +1,14 @@
 // Cases whose outcomes are stated, read as text lines. The first byte tells what a line is:
 //   case NAME                             a case begins, with an empty plan file and nothing due
 //   file NNNNN NNNNN NNNNN NNNNN NNNNN NNNNN
-//                                         a record more of the plan file: its first six numbers of two bytes
+//                                         a record more of the plan file: its first six numbers of two bytes, where 256
+//                                         more than a domain number is a mark
 //   at OOOO NNN                           a byte of the plan file
 //   size NNNN                             the bytes of the plan file
 //   plan PPPPP                            the period of the plan that is due
 //   domain NN QQQQQ RRRRR WWWWW VVVVV     a domain of it; V is the writeback reservation
 //   beside NN QQQQQ RRRRR WWWWW VVVVV     numbers of a domain that it has not planned
+//   mark NN                               a mark of a domain, planned or not, behind the domain's line
 //   read NN KKKKK                         reading tells this refusal and place, and the plan due (zeros where none is)
 //   told NNNNNNN                          a sum more that is due
 //   walk                                  the sums told are those due, and no other
@@ -38,7 +40,7 @@ struct Stand {
     named: usize,
     size: usize,
     period: u32,
-    domains: [u32; 80],
+    domains: [u32; 96],
     sums: Sums,
 }
 
@@ -49,7 +51,7 @@ fn begun(case: u32, named: usize, size: usize, period: u32) -> Stand {
         named,
         size,
         period,
-        domains: [0; 80],
+        domains: [0; 96],
         sums: Sums {
             records: 0,
             told: [0; 16],
@@ -70,9 +72,17 @@ fn with_domain(p: Stand, given: &[u8], at: usize, planned: u32) -> Stand {
         lines::small(given, at, 22, 5),
         lines::small(given, at, 28, 5),
     );
-    let flag = ((n + 15) % 16 * 5) as usize;
+    let flag = ((n + 15) % 16 * 6) as usize;
     next[flag] = planned;
     after.domains = next;
+    after
+}
+
+fn with_mark(p: Stand, domain: u32) -> Stand {
+    let mut after = p;
+    let domains = p.domains;
+    let marked = words::with_mark(domains, domain, 1);
+    after.domains = marked;
     after
 }
 
@@ -106,6 +116,7 @@ fn stand_after(p: Stand, given: &[u8], at: usize, file: &mut [u8]) -> Stand {
         b'p' => begun(p.case, p.named, p.size, lines::small(given, at, 5, 5)),
         b'd' => with_domain(p, given, at, 1),
         b'b' => with_domain(p, given, at, 0),
+        b'm' => with_mark(p, lines::small(given, at, 5, 2)),
         b't' => with_sum(p, (lines::number(given, at, 5, 7) % 4294967296) as u32),
         b'f' | b'a' | b's' => with_size(p, put_in_file(file, p.size, given, at)),
         _ => p,

@@ -22,7 +22,7 @@ fn standing(v: u32, w: u32, period: u32) -> usize
 }
 
 // Counts those of the planned domains, and tells the sum of Q.
-fn count_domains(domains: [u32; 80], period: u32, seen: &mut [u32]) -> u64 {
+fn count_domains(domains: [u32; 96], period: u32, seen: &mut [u32]) -> u64 {
     let mut sum: u64 = 0;
     let mut n: u32 = 0;
     while n < 16 {
@@ -36,7 +36,7 @@ fn count_domains(domains: [u32; 80], period: u32, seen: &mut [u32]) -> u64 {
 }
 
 // The lowest domain whose writeback reservation is above W, or 17.
-fn first_above(domains: [u32; 80]) -> u32 {
+fn first_above(domains: [u32; 96]) -> u32 {
     let mut n: u32 = 1;
     while n < 17 {
         if words::word(domains, n, 4) > words::word(domains, n, 3) {
@@ -48,7 +48,7 @@ fn first_above(domains: [u32; 80]) -> u32 {
 }
 
 // Whether a refusal is one that another reading of the rules would not tell.
-fn telling(number: u32, place: u32, domains: [u32; 80], period: u32, sum: u64) -> bool {
+fn telling(number: u32, place: u32, domains: [u32; 96], period: u32, sum: u64) -> bool {
     match number {
         9 => first_above(domains) < place,
         11 => words::word(domains, place, 4) <= period,

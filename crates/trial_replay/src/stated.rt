@@ -1,7 +1,8 @@
 // Replays whose text is stated, read as text lines. The first byte tells what a line is:
 //   case NAME                             a case begins, with an empty plan file and an empty script
 //   file NNNNN NNNNN NNNNN NNNNN NNNNN NNNNN
-//                                         a record more of the plan file: its first six numbers of two bytes
+//                                         a record more of the plan file: its first six numbers of two bytes, where 256
+//                                         more than a domain number is a mark
 //   at OOOO NNN                           a byte of the plan file
 //   size NNNN                             the bytes of the plan file
 //   > TEXT                                a line of the script
@@ -24,7 +25,7 @@ use trial_kit::tally::Tally;
 use trial_scripts::lines::put_part;
 
 // The kind of all stated cases, behind the others.
-const STATED: u32 = 28;
+const STATED: u32 = 29;
 
 // The bytes so far of the plan file, the script and the text due, where the case's name stands, its number, and the periods
 // that its replays closed.

@@ -5,9 +5,9 @@ use trial_kit::draw;
 use trial_kit::styles;
 use trial_kit::values;
 
-// The kinds 0 to 3 have damaged or drawn plan files, 4 to 11 scripts that are taken, 12 to 20 a line put among others in one
-// of nine ways, 21 to 25 damaged or drawn scripts, 26 short buffers, and 27 lines read by themselves.
-pub const KINDS: u32 = 28;
+// The kinds 0 to 3 have damaged or drawn plan files, 4 to 11 and 28 scripts that are taken, 12 to 20 a line put among others in
+// one of nine ways, 21 to 25 damaged or drawn scripts, 26 short buffers, and 27 lines read by themselves.
+pub const KINDS: u32 = 29;
 
 pub const LINES: u32 = 27;
 
@@ -42,6 +42,7 @@ pub fn runs(kind: u32) -> u32 {
         3 | 24 => 600,
         26 => 4200,
         27 => 12000,
+        28 => 300,
         _ => 2000,
     }
 }
@@ -61,6 +62,7 @@ fn style_of(kind: u32, run: u32) -> u32 {
         0 | 5 | 11 => styles::SMALL,
         2 | 3 | 7 => styles::NONE,
         4 => styles::ONE,
+        28 => styles::MARKED,
         6 => styles::MOST,
         8 => styles::SIXTEEN,
         9 => styles::UNRESERVED,
@@ -102,6 +104,7 @@ pub fn first_lines(c: Case) -> u32 {
         12..=20 => draw::upto(c.seed, 80, 9),
         21..=23 => 22,
         26 => if c.run % 3 == 0 { 200 } else { 30 },
+        28 => 150,
         _ => 0,
     }
 }

@@ -1,5 +1,5 @@
 // Lines put into a lent script from a place on, and drawn ones. Each answers the place behind it.
-ghost use Prim.Native.Nat.{_<_, _≤_};
+ghost use Prim.Native.Nat.{_<_};
 use model_replay::text;
 use trial_kit::draw;
 use trial_kit::tally::both;
@@ -33,7 +33,7 @@ pub fn put_part(to: &mut [u8], at: usize, given: &[u8], from: usize, end: usize)
 pub fn word(s: &[u64], row: u32, column: u32) -> u32
     ensures { λ r. ⌜ r < 65536 ⌝ }
 {
-    let at = (row % 17 * 11 + column % 11) as usize;
+    let at = (row % 17 * 14 + column % 14) as usize;
     if at < s.len() {
         (s[at] % 65536) as u32
     } else {
@@ -148,7 +148,7 @@ pub fn drawn_yield(s: &[u64], seed: u32) -> Amount {
 pub fn put_drawn_slot(script: &mut [u8], at: usize, s: &mut [u64], w: Weights, seed: u32) -> usize {
     let offers = drawn_offers(s, w, seed);
     let mut verdicts = [0u8; 17];
-    let mut counts = [0u64; 187];
+    let mut counts = [0u64; 238];
     model_calls::slot(s, &offers, &mut verdicts, &mut counts);
     put_slot(script, at, &offers, 17)
 }

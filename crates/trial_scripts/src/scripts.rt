@@ -198,7 +198,7 @@ fn put_behind(script: &mut [u8], at: usize, s: &mut [u64], c: Case) -> usize {
 
 // Puts the script and answers its bytes.
 pub fn put(script: &mut [u8], c: Case) -> usize {
-    let mut s = [0u64; 374];
+    let mut s = [0u64; 476];
     cases::open(&mut s, c);
     let w = cases::weights(c);
     let at = lines::put_lines(script, 0, &mut s, w, c.shared, cases::first_lines(c));

@@ -1,5 +1,6 @@
 // States changed in one number, in several, or in all: most no longer add up, and each line of that rule is broken alone.
 use super::draws;
+use super::estimates;
 use super::forms;
 use super::handing;
 use super::sums;
@@ -17,7 +18,7 @@ fn word_of(column: usize, domain: usize) -> usize {
         3 => 4,
         4 => 5,
         15 => 7,
-        _ => 11 * (1 + domain % 16) + (column - 4) % 11,
+        _ => 14 * (1 + domain % 16) + (column - 4) % 14,
     }
 }
 
@@ -154,6 +155,7 @@ fn put_full_plan(words: &mut [u64]) {
     let p = values::drawn(1, values::FULL);
     let reservation = p.reservation;
     let writebackreservation = p.writebackreservation;
+    let tracked = forms::nothing_tracked();
     s.plan = p;
     s.claim = reservation;
     s.writebackclaim = writebackreservation;
@@ -166,13 +168,14 @@ fn put_full_plan(words: &mut [u64]) {
     s.best = 0;
     s.stock = 0;
     s.steps = 0;
+    s.tracked = tracked;
     forms::put_state(words, s);
 }
 
 // By how much numbers are moved: by one more than the claim, the stock, the decided or the idle slots lowered, or by any.
 fn round_by(words: &[u64], which: u32, domain: usize, seed: u32) -> u64 {
     match which {
-        2 => 1 + forms::word(words, 11 * (domain % 16 + 1) + 5) % 65536,
+        2 => 1 + forms::word(words, 14 * (domain % 16 + 1) + 5) % 65536,
         3 => 1 + forms::word(words, 5) % 65536,
         5 => 1 + forms::word(words, 1) % 65536,
         7 => 1 + forms::word(words, 3) % 65536,
@@ -191,16 +194,21 @@ fn round_way(which: u32) -> u32 {
     }
 }
 
-// Idle slots put behind those decided, none, all that the period has left but one, or a drawn number of them; then the sum of
-// steps alone put in a drawn way.
-fn steps_off(words: &mut [u64], seed: u32) {
+// The slots that the period has left but one.
+fn slots_left(words: &[u64]) -> u32 {
     let period = (forms::word(words, 0) % 65536) as u32;
     let decided = (forms::word(words, 1) % 65536) as u32;
-    let left = if decided < period {
+    if decided < period {
         period - decided - 1
     } else {
         0
-    };
+    }
+}
+
+// Idle slots put behind those decided, none, all that the period has left but one, or a drawn number of them; then the sum of
+// steps alone put in a drawn way.
+fn steps_off(words: &mut [u64], seed: u32) {
+    let left = slots_left(words);
     let idle = match draw::upto(seed, 84, 2) {
         0 => 0,
         1 => left,
@@ -246,7 +254,8 @@ fn number_off(x: u64, drawn: u32) -> u64 {
     }
 }
 
-// Word k put off; a flag, that of the plan that waits or a domain's, is put to the other.
+// Word k put off; a flag, that of the plan that waits or a domain's, is put to the other, and an estimate to another kind or
+// to other bits.
 fn word_off(k: usize, x: u64, drawn: u32) -> u64 {
     match k {
         6 => return turn_off(x, drawn),
@@ -254,24 +263,25 @@ fn word_off(k: usize, x: u64, drawn: u32) -> u64 {
         forms::WAITS => return 1 - x % 2,
         _ => (),
     }
-    if k % 11 == 0 {
-        1 - x % 2
-    } else {
-        number_off(x, drawn)
+    match k % 14 {
+        0 | 11 => 1 - x % 2,
+        12 => (x % 3 + 1 + (drawn % 2) as u64) % 3,
+        13 => estimates::bits(drawn % 16, drawn / 16 % 8, drawn / 128),
+        _ => number_off(x, drawn),
     }
 }
 
-// Any word of a state: one of the first seventeen rows, of which 8 to 10 are none, the flag, or one of the plan beside it.
+// Any word of a state: one of the first seventeen rows, of which 8 to 13 are none, the flag, or one of the plan beside it.
 fn any_word(x: u32) -> usize {
-    let k = (x % 269) as usize;
-    if k <= forms::WAITS {
+    let k = x % 336;
+    if k <= 239 {
         return match k {
-            8..=10 => 7,
-            _ => k,
+            8..=13 => 7,
+            _ => k as usize,
         };
     }
-    let i = k - forms::WAITS - 1;
-    forms::NEXT + 11 * (i / 5 + 1) + i % 5
+    let i = k - 240;
+    forms::NEXT + 14 * (i / 6 + 1) as usize + forms::plan_column(i % 6)
 }
 
 // One number put off.
@@ -289,7 +299,7 @@ fn any_state(words: &mut [u64], seed: u32) {
         _ => 1,
     };
     let mut k: u32 = 0;
-    while k < 269 {
+    while k < 336 {
         let x = draw::upto(seed, 100 + k, most);
         forms::put(words, any_word(k), x as u64);
         k += 1;
@@ -314,7 +324,13 @@ fn beside(words: &mut [u64], waits: bool, seed: u32) {
     }
 }
 
-// Changes the words of a state, for the kinds 15 to 20 and 24 to 26; they may come to more than a state holds.
+// Idle slots put behind those decided until one slot is left, so that the next one closes the period.
+fn to_last_slot(words: &mut [u64]) {
+    let left = slots_left(words);
+    shift_in(words, 0, 0, left as u64);
+}
+
+// Changes the words of a state, for the kinds 15 to 20, 24 to 26, 28 and 29; they may come to more than a state holds.
 fn change(words: &mut [u64], kind: u32, seed: u32) {
     match kind {
         15 => one_off(words, seed),
@@ -325,6 +341,11 @@ fn change(words: &mut [u64], kind: u32, seed: u32) {
         20 => steps_off(words, seed),
         24 => beside(words, true, seed),
         25 => beside(words, false, seed),
+        28 => {
+            to_last_slot(words);
+            estimates::put_sorts(words, seed);
+        }
+        29 => estimates::put_unmarked(words, seed),
         _ => several(words, WRITES + draw::upto(seed, 80, WRITE_WAYS - 1), seed),
     }
 }
@@ -332,7 +353,7 @@ fn change(words: &mut [u64], kind: u32, seed: u32) {
 // Whether a changed state is tried at each step of a kind.
 pub fn has_kind(kind: u32) -> bool {
     match kind {
-        15..=20 | 24..=26 => true,
+        15..=20 | 24..=26 | 28 | 29 => true,
         _ => false,
     }
 }

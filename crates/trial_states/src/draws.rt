@@ -8,7 +8,7 @@ use trial_kit::draw;
 
 // Whether the domain whose number is one above is planned.
 fn is_planned(words: &[u64], i: usize) -> bool {
-    forms::word(words, 11 * (i % 16 + 1)) != 0
+    forms::word(words, 14 * (i % 16 + 1)) != 0
 }
 
 // The first domain number from a start on, going round, that is planned or is not; 0 for none.
@@ -28,8 +28,8 @@ pub fn domain_from(words: &[u64], start: u32, planned: bool) -> usize
 
 // The kind that a domain offers with claim left; where it has both or neither, the one drawn.
 fn asked_kind(words: &[u64], row: usize, writes: bool) -> u8 {
-    let reads = forms::word(words, 11 * (row % 17) + 5) > 0;
-    let claims = forms::word(words, 11 * (row % 17) + 10) > 0;
+    let reads = forms::word(words, 14 * (row % 17) + 5) > 0;
+    let claims = forms::word(words, 14 * (row % 17) + 10) > 0;
     let drawn = if writes { 2 } else { 1 };
     if reads == claims {
         return drawn;
@@ -176,8 +176,8 @@ fn is_wrong(faults: u32, chosen: bool) -> bool {
 // A yield by a planned domain, with so many faults: in its domain number, in its units, or in both.
 fn yield_of(c: Call, words: &[u64], seed: u32, faults: u32) -> Call {
     let n = domain_from(words, draw::upto(seed, 10, 15), true);
-    let claim = forms::word(words, 11 * (n % 17) + 5);
-    let writes = forms::word(words, 11 * (n % 17) + 10);
+    let claim = forms::word(words, 14 * (n % 17) + 5);
+    let writes = forms::word(words, 14 * (n % 17) + 10);
     let x = draw::draw(seed, 12);
     let first = x / 16 % 2 == 0;
     let domain = if is_wrong(faults, first) {

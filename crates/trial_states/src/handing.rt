@@ -19,12 +19,6 @@ fn with_drawn(p: Plan, domain: u32, most: u32, seed: u32) -> Plan {
     values::with_numbers(p, domain, draw::upto(seed, 91, most), r, w, v)
 }
 
-fn without(p: Plan, domain: u32) -> Plan
-    requires { ⌜ domain ≤ 15 ⌝ }
-{
-    values::with_word(values::with_numbers(p, domain, 0, 0, 0, 0), domain * 5, 0)
-}
-
 // The index of a domain that is planned or is not.
 fn index_from(words: &[u64], start: u32, planned: bool) -> u32
     ensures { λ r. ⌜ r ≤ 15 ⌝ }
@@ -32,21 +26,21 @@ fn index_from(words: &[u64], start: u32, planned: bool) -> u32
     ((draws::domain_from(words, start, planned) + 15) % 16) as u32
 }
 
-// The plan in force: again, with a domain more or less, with other numbers for one, with the numbers of one for another, or
-// with a slot more or less.
+// The plan in force: again, with a domain more or less, with other numbers for one, with the numbers of one for another, with
+// a slot more or less, or with another mark.
 fn edited(words: &[u64], seed: u32) -> Plan {
     let p = forms::plan_of(words, forms::FORCE);
     let period = values::wide(p.period);
     let present = index_from(words, draw::upto(seed, 94, 15), true);
     let absent = index_from(words, draw::upto(seed, 95, 15), false);
-    let k = present * 5;
-    match draw::upto(seed, 96, 6) {
+    let k = present * 6;
+    match draw::upto(seed, 96, 7) {
         0 => p,
         1 => with_drawn(p, absent, 2, seed),
-        2 => without(p, present),
+        2 => plans::without(p, present),
         3 => with_drawn(p, present, period / 2 + 1, seed),
         4 => values::with_numbers(
-            without(p, present),
+            plans::without(p, present),
             absent,
             values::word(p, k + 1),
             values::word(p, k + 2),
@@ -54,13 +48,14 @@ fn edited(words: &[u64], seed: u32) -> Plan {
             values::word(p, k + 4),
         ),
         5 => values::with_period(p, period + 1),
+        6 => values::with_mark(p, present, values::word(p, k + 5) == 0),
         _ => values::with_period(p, period + 65535),
     }
 }
 
 // The plan as it would be refused with 2, 9, 11 or 10.
 fn spoiled(p: Plan, seed: u32) -> Plan {
-    plans::spoiled(p, draw::upto(seed, 89, 4), seed)
+    plans::spoiled(p, draw::upto(seed, 89, 5), seed)
 }
 
 // A plan as runs of the style have it, or the one in force edited; one in four has a fault, or two.

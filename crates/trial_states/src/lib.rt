@@ -2,6 +2,7 @@
 pub mod calls;
 pub mod changes;
 pub mod draws;
+pub mod estimates;
 pub mod forms;
 pub mod handing;
 pub mod marks;

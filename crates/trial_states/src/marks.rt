@@ -3,11 +3,13 @@ ghost use Prim.Native.Nat.{_≤_};
 use super::calls;
 use super::calls::Call;
 use super::forms;
+use model_calls::forecast;
 use trial_kit::tally::both;
 
 // What a domain may have: a place in the plan in force, in the one that waits, or in the one at hand; claim, while the one at
-// hand leaves it out; numbers that the one at hand has otherwise; claim; writebacks.
-const PLANNED: u32 = 0;
+// hand leaves it out; numbers or a mark that the one at hand has otherwise; claim; writebacks; reclaimed passes; a mark; an
+// estimate, and one that is a NaN; a yield by forecast.
+pub const PLANNED: u32 = 0;
 
 const COMING: u32 = 1;
 
@@ -19,26 +21,36 @@ const RESIZED: u32 = 4;
 
 pub const CLAIM: u32 = 5;
 
-const WRITEBACKS: u32 = 6;
+pub const WRITEBACKS: u32 = 6;
+
+pub const RECLAIMED: u32 = 7;
+
+pub const MARKED: u32 = 8;
+
+pub const ESTIMATED: u32 = 9;
+
+pub const NAN: u32 = 10;
+
+pub const FORESEEN: u32 = 11;
 
 // Whether a word of a domain is another in the plan at hand, as bits.
 fn other(words: &[u64], at: usize) -> u64
-    requires { ⌜ at ≤ 186 ⌝ }
+    requires { ⌜ at ≤ 237 ⌝ }
 {
     forms::word(words, at) ^ forms::word(words, forms::GIVEN + at)
 }
 
-// The same of all numbers of a domain's row.
+// The same of all numbers of a domain's row, and of its mark.
 fn otherwise(words: &[u64], at: usize) -> u64
-    requires { ⌜ at ≤ 176 ⌝ }
+    requires { ⌜ at ≤ 224 ⌝ }
 {
     let shares = other(words, at + 1) | other(words, at + 4);
-    shares | other(words, at + 2) | other(words, at + 3)
+    shares | other(words, at + 2) | other(words, at + 3) | other(words, at + 11)
 }
 
 // Whether the domain whose row begins at a word has this.
 fn has(words: &[u64], at: usize, what: u32) -> bool
-    requires { ⌜ at ≤ 176 ⌝ }
+    requires { ⌜ at ≤ 224 ⌝ }
 {
     let planned = forms::word(words, at) != 0;
     let given = forms::word(words, forms::GIVEN + at) != 0;
@@ -50,7 +62,20 @@ fn has(words: &[u64], at: usize, what: u32) -> bool
         DROPPED => both(claim, !given),
         RESIZED => both(both(planned, given), otherwise(words, at) != 0),
         CLAIM => claim,
-        _ => forms::word(words, at + 9) != 0,
+        WRITEBACKS => forms::word(words, at + 9) != 0,
+        _ => has_more(words, at, what),
+    }
+}
+
+fn has_more(words: &[u64], at: usize, what: u32) -> bool
+    requires { ⌜ at ≤ 224 ⌝ }
+{
+    match what {
+        RECLAIMED => forms::word(words, at + 7) != 0,
+        MARKED => forms::word(words, at + 11) != 0,
+        ESTIMATED => forms::word(words, at + 12) != 0,
+        NAN => forms::word(words, at + 12) == 2,
+        _ => forecast::need(words, at / 14) < forms::word(words, at + 1),
     }
 }
 
@@ -65,7 +90,7 @@ pub fn domains(words: &[u64], what: u32) -> u32 {
     let mut bits: u32 = 0;
     let mut left: usize = 16;
     while left > 0 {
-        bits = with_bit(bits, has(words, 11 * left, what));
+        bits = with_bit(bits, has(words, 14 * left, what));
         left -= 1;
     }
     bits

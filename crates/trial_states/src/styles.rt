@@ -40,8 +40,8 @@ fn styled(
     }
 }
 
-// Kinds 0 and 1 are openings, 2 to 14, 21 to 23 and 27 runs, 15 to 20 and 24 to 26 runs at whose every step a changed state
-// is tried too.
+// Kinds 0 and 1 are openings, 2 to 14, 21 to 23, 27, 30 and 31 runs, 15 to 20, 24 to 26, 28 and 29 runs at whose every step a
+// changed state is tried too.
 pub fn of_kind(kind: u32) -> Style {
     match kind {
         0 => styled(styles::ACCEPTED, 1500, 0, 0, 0, 0, 0, 0, 0),
@@ -71,6 +71,10 @@ pub fn of_kind(kind: u32) -> Style {
         24 => styled(styles::LEAST, 100, 40, 9, 5, 3, 3, 4, 8),
         25 => styled(styles::LEAST, 100, 40, 9, 5, 3, 3, 4, 8),
         26 => styled(styles::LEAST, 200, 60, 9, 8, 3, 0, 2, 8),
-        _ => styled(styles::OLDER, 150, 100, 11, 12, 2, 1, 2, 0),
+        27 => styled(styles::OLDER, 150, 100, 11, 12, 2, 1, 2, 0),
+        28 => styled(styles::LEAST, 300, 60, 9, 4, 3, 0, 2, 8),
+        29 => styled(styles::LEAST, 100, 40, 9, 4, 3, 0, 2, 8),
+        30 => styled(styles::MARKED, 150, 300, 8, 3, 1, 0, 0, 0),
+        _ => styled(styles::MARKED, 150, 120, 10, 3, 2, 1, 4, 14),
     }
 }

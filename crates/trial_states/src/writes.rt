@@ -23,7 +23,7 @@ const SOME: u32 = 5;
 
 // Whether the domain whose row begins at a word stands so.
 fn stands(words: &[u64], at: usize, how: u32) -> bool
-    requires { ⌜ at ≤ 176 ⌝ }
+    requires { ⌜ at ≤ 224 ⌝ }
 {
     let reserved = forms::word(words, at + 4);
     let writebacks = forms::word(words, at + 9);
@@ -50,7 +50,7 @@ fn standing(words: &[u64], how: u32) -> u32 {
     let mut bits: u32 = 0;
     let mut left: usize = 16;
     while left > 0 {
-        bits = marks::with_bit(bits, stands(words, 11 * left, how));
+        bits = marks::with_bit(bits, stands(words, 14 * left, how));
         left -= 1;
     }
     bits
@@ -75,7 +75,7 @@ fn claims(words: &[u64], column: usize) -> u64
     let mut n: usize = 0;
     while n < 16 {
         n += 1;
-        sum = std::num::wrapping_add_u64(sum, forms::word(words, 11 * n + column));
+        sum = std::num::wrapping_add_u64(sum, forms::word(words, 14 * n + column));
     }
     sum
 }
@@ -113,7 +113,7 @@ fn of_slot(words: &[u64], offers: [u8; 18], verdicts: [u8; 18]) -> [bool; 9] {
 
 // Whether k is above a domain's claim, and at most both of its claims.
 fn of_both(words: &[u64], domain: u64, k: u64) -> bool {
-    let at = 11 * (domain % 17) as usize;
+    let at = 14 * (domain % 17) as usize;
     let both_claims = std::num::wrapping_add_u64(
         forms::word(words, at + 5),
         forms::word(words, at + 10),

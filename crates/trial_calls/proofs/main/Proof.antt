@@ -6,10 +6,10 @@ use Rattle.trial_calls.proofs.main.Statement.{statement}
 use Rattle.trial_calls.proofs.main.Tie as tie
 
 abbrev Inv-loop : tie.InvT-loop
-Inv-loop bytes r₀ kind₀ r kind = kind ≤ 28
+Inv-loop bytes r₀ kind₀ r kind = kind ≤ 32
 
 abbrev μ-loop : tie.MeasureT-loop
-μ-loop bytes r₀ kind₀ r kind = 28 - kind
+μ-loop bytes r₀ kind₀ r kind = 32 - kind
 
 pub main-spec : {M : Type 1} → statement M
 main-spec =

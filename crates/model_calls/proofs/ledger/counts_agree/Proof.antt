@@ -1,4 +1,4 @@
--- `model_calls::ledger::counts_agree` compares 187 words and ends.
+-- `model_calls::ledger::counts_agree` compares 238 words and ends.
 -- Assumes nothing.
 use Prim.Native.Nat.{_≤_, _-_}
 use borrow.Author.Needs.{needs}
@@ -6,10 +6,10 @@ use Rattle.model_calls.proofs.ledger.counts_agree.Statement.{statement}
 use Rattle.model_calls.proofs.ledger.counts_agree.Tie as tie
 
 abbrev Inv-loop : tie.InvT-loop
-Inv-loop page complete told counts k₀ k = k ≤ 187
+Inv-loop page complete told counts k₀ k = k ≤ 238
 
 abbrev μ-loop : tie.MeasureT-loop
-μ-loop page complete told counts k₀ k = 187 - k
+μ-loop page complete told counts k₀ k = 238 - k
 
 pub counts-agree-spec : {M : Type 1} → statement M
 counts-agree-spec =

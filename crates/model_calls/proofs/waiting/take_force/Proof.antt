@@ -8,10 +8,10 @@ use Rattle.model_calls.proofs.waiting.take_force.Statement.{statement}
 use Rattle.model_calls.proofs.waiting.take_force.Tie as tie
 
 abbrev Inv-loop : tie.InvT-loop
-Inv-loop s₀ waits k₀ s k = (k ≤ 187) × (length s ≡ length s₀)
+Inv-loop s₀ waits k₀ s k = (k ≤ 238) × (length s ≡ length s₀)
 
 abbrev μ-loop : tie.MeasureT-loop
-μ-loop s₀ waits k₀ s k = 187 - k
+μ-loop s₀ waits k₀ s k = 238 - k
 
 pub take-force-spec : {M : Type 1} → statement M
 take-force-spec =

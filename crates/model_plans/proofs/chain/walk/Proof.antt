@@ -1,4 +1,4 @@
--- `model_plans::chain::walk` ends after at most 64 steps, and keeps 80 words.
+-- `model_plans::chain::walk` ends after at most 64 steps, and keeps 96 words.
 -- Assumes nothing.
 use Prim.Native.Nat.{_≤_, _-_}
 use borrow.Author.Needs.{needs}
@@ -8,7 +8,7 @@ use Rattle.model_plans.proofs.chain.walk.Statement.{statement}
 use Rattle.model_plans.proofs.chain.walk.Tie as tie
 
 abbrev Inv-loop : tie.InvT-loop
-Inv-loop file period domains₀ at₀ steps₀ domains at steps = (steps ≤ 64) × (length domains ≡ 80)
+Inv-loop file period domains₀ at₀ steps₀ domains at steps = (steps ≤ 64) × (length domains ≡ 96)
 
 abbrev μ-loop : tie.MeasureT-loop
 μ-loop file period domains₀ at₀ steps₀ domains at steps = 64 - steps

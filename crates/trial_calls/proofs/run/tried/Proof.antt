@@ -8,7 +8,7 @@ use Rattle.trial_calls.proofs.run.tried.Statement.{statement}
 use Rattle.trial_calls.proofs.run.tried.Tie as tie
 
 abbrev Inv-loop : tie.InvT-loop
-Inv-loop of style now₀ page₀ r₀ i₀ now page r i = (i ≤ style .steps) × ((length now ≡ 561) × (length page ≡ 374))
+Inv-loop of style now₀ page₀ r₀ i₀ now page r i = (i ≤ style .steps) × ((length now ≡ 714) × (length page ≡ 476))
 
 abbrev μ-loop : tie.MeasureT-loop
 μ-loop of style now₀ page₀ r₀ i₀ now page r i = style .steps - i

@@ -8,7 +8,7 @@ use Rattle.trial_calls.proofs.script.cases.Statement.{statement}
 use Rattle.trial_calls.proofs.script.cases.Tie as tie
 
 abbrev Inv-loop : tie.InvT-loop
-Inv-loop text now₀ counts₀ page₀ s₀ at₀ now counts page s at = ((length now ≡ 561) × (length counts ≡ 187)) × (length page ≡ 374)
+Inv-loop text now₀ counts₀ page₀ s₀ at₀ now counts page s at = ((length now ≡ 714) × (length counts ≡ 238)) × (length page ≡ 476)
 
 abbrev μ-loop : tie.MeasureT-loop
 μ-loop text now₀ counts₀ page₀ s₀ at₀ now counts page s at = length text - at

@@ -8,10 +8,10 @@ use Rattle.trial_states.proofs.changes.any_state.Statement.{statement}
 use Rattle.trial_states.proofs.changes.any_state.Tie as tie
 
 abbrev Inv-loop : tie.InvT-loop
-Inv-loop words₀ seed most k₀ words k = (k ≤ 269) × (length words ≡ length words₀)
+Inv-loop words₀ seed most k₀ words k = (k ≤ 336) × (length words ≡ length words₀)
 
 abbrev μ-loop : tie.MeasureT-loop
-μ-loop words₀ seed most k₀ words k = 269 - k
+μ-loop words₀ seed most k₀ words k = 336 - k
 
 pub any-state-spec : {M : Type 1} → statement M
 any-state-spec =

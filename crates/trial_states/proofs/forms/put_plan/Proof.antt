@@ -8,10 +8,10 @@ use Rattle.trial_states.proofs.forms.put_plan.Statement.{statement}
 use Rattle.trial_states.proofs.forms.put_plan.Tie as tie
 
 abbrev Inv-loop : tie.InvT-loop
-Inv-loop to₀ from p k₀ to k = (k ≤ 80) × (length to ≡ length to₀)
+Inv-loop to₀ from p k₀ to k = (k ≤ 96) × (length to ≡ length to₀)
 
 abbrev μ-loop : tie.MeasureT-loop
-μ-loop to₀ from p k₀ to k = 80 - k
+μ-loop to₀ from p k₀ to k = 96 - k
 
 pub put-plan-spec : {M : Type 1} → statement M
 put-plan-spec =
