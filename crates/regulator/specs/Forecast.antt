@@ -57,8 +57,11 @@ needOf (Known z) Q = lowest (atOrAbove z) Q
 
 -- What holds of it at any float (theorem `need-is-smallest` of proofs/Laws/Forecasting.antt), in the sentence's words.
 pub record Smallest (z : Float) (Q n : ℕ) : Type 0 where
+  -- it is "from 0 to Q"
   pub within : n ≤ Q
+  -- where a whole number from 0 to Q is at or above the estimate, it is too, and is the smallest of them
   pub smallest : (k : ℕ) → k ≤ Q → atOrAbove z k ≡ true → (atOrAbove z n ≡ true) × (n ≤ k)
+  -- "or Q if there is none"
   pub otherwise : ((k : ℕ) → k ≤ Q → atOrAbove z k ≡ false) → n ≡ Q
 
 abbrev pub NeedIsSmallest : Type 0

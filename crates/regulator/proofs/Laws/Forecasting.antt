@@ -11,15 +11,16 @@ use lib.Dec.{ltb}
 use lib.Ieee.{Float}
 use borrow.Author.Tests.{ltb-true, ltb-false}
 use Rattle.table.specs.Sums.{nth, sum}
+use Rattle.table.specs.Ranges.{valuesBelow, lowest}
 use Rattle.table.proofs.Elements.{repeat-at, sum-le}
 use Rattle.table.proofs.Filling.{values-length, values-at, values-same}
-use Rattle.table.specs.Ranges.{valuesBelow, lowest}
 use Rattle.table.proofs.Searches.{Lowest, lowest-is}
 use Rattle.regulator.specs.Forecast.{unknown, noEstimates, estimateAt, atOrAbove, needOf, Smallest, NeedIsSmallest, needAt, startYields, startClaims, closedAt, closedWith}
 use Rattle.regulator.specs.declared.forecast.Tracked.{Tracked}
 use Rattle.regulator.specs.declared.forecast.Estimate.{Estimate}
 use Rattle.regulator.specs.declared.forecast.Estimate.the-variants.{Unknown, Known}
 
+-- the need of an estimate z: what the search tells of it, first that no number at or above z is smaller
 module _ (z : Float) (Q : ℕ) where
   abbrev n : ℕ
   n = lowest (atOrAbove z) Q
@@ -34,6 +35,7 @@ module _ (z : Float) (Q : ℕ) where
       go true h = absurd (false≢true (sym (told .before k (omega arith) (ltb-true k n h)) ∙ e))
       go false h = ltb-false k n h
 
+  -- it is at or above z if any number from 0 to Q is, and Q if none is
   reached : (k : ℕ) → k ≤ Q → atOrAbove z k ≡ true → atOrAbove z n ≡ true
   reached k low e = go (ltb n Q) refl
     where
