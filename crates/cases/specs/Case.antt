@@ -5,7 +5,7 @@ use mathlib.Core.List.{List, [], _∷_, map}
 use mathlib.Core.Option.{Option}
 use lib.ListN.{length}
 use lib.IntN.{ℤ}
-use Rattle.plan.specs.Reading.{readPlan}
+use Rattle.plan.specs.Reading.{readPlan, readWithLeftovers}
 use Rattle.plan.specs.Sums.{sumsTold}
 use Rattle.plan.specs.Writing.{writePlan, written}
 use Rattle.plan.specs.declared.value.Plan.{Plan}
@@ -24,12 +24,13 @@ use Rattle.script.specs.Replay.{replayText}
 use Rattle.share.specs.Call.{Call}
 use Rattle.share.specs.Run.{Made, made, run}
 
--- An input: a plan file that is read; a plan file whose sums are told; a plan value that is written to a lent buffer; a plan file whose
+-- An input: a plan file that is read; one that is read by both rules; a plan file whose sums are told; a plan value that is written to a lent buffer; a plan file whose
 -- plan is opened, and calls from there on; the same, to see the states that they return; a call on a state that is given; a plan handed
 -- in on such a state; a script line that is read, with a lent buffer; a plan file and a script of the replay; a call on a state that is
 -- given, to see the state that it returns; an estimate at the close of a period with c access passes; or one of which the need is asked.
 pub data Input : Type 0 where
   file : (bytes : List ℕ) → Input
+  both : (bytes : List ℕ) → Input
   summed : (bytes : List ℕ) → Input
   value : Plan → (buffer : List ℕ) → Input
   calls : (bytes : List ℕ) → List Call → Input
@@ -52,11 +53,12 @@ pub record Shown : Type 0 where
   pub counts : Option Counts
   pub steps : ℕ
 
--- An outcome: what reading answers; the sums told; what writing answers, and the buffer; 0 or the number of a refusal of opening, and
+-- An outcome: what reading answers; what it answers and what the earlier rule does; the sums told; what writing answers, and the buffer; 0 or the number of a refusal of opening, and
 -- what is shown of each call, or its refusal and the whole state that it returns; what handing in answers; what a line means, and the
 -- buffer; all that is printed; an estimate; or a need.
 pub data Outcome : Type 0 where
   reading : Reading → Outcome
+  readings : (now earlier : Reading) → Outcome
   sums : Sums → Outcome
   writing : Writing → (buffer : List ℕ) → Outcome
   answers : (refused : ℕ) → List Shown → Outcome
@@ -74,6 +76,7 @@ shownOf m =
 -- what the definitions give
 unfoldable pub outcomeOf : Input → Outcome
 outcomeOf (file bytes) = reading (readPlan bytes)
+outcomeOf (both bytes) = readings (readPlan bytes) (readWithLeftovers bytes)
 outcomeOf (summed bytes) = sums (sumsTold bytes)
 outcomeOf (value p buffer) = writing (writePlan p (length buffer)) (written p buffer)
 outcomeOf (calls bytes cs) =

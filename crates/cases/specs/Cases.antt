@@ -51,10 +51,6 @@ lasting low high = head low high ++ (domain 2 1 0 2 1 4 ++ domain 0 2 0 1 0 0)
 abbrev twoFaults : List ℕ
 twoFaults = head 4 0 ++ (domain 2 0 1 2 1 4 ++ domain 0 2 0 1 0 0)
 
--- plan A with a record more, which is off the chain: domain 3, with a Q that brings the sum above P
-abbrev leftOver : List ℕ
-leftOver = planA ++ domain 0 3 0 4 0 0
-
 -- plan A but for the R of domain 2
 abbrev reclaiming : List ℕ
 reclaiming = head 4 0 ++ (domain 2 1 0 2 1 4 ++ domain 0 2 0 1 1 0)
@@ -79,7 +75,7 @@ abbrev pub planD : List ℕ
 planD = fileD 2 2 1 0
 
 -- what plan A is read as, with another period or Q of domain 1
-abbrev valueOf : ℕ → ℕ → Plan
+abbrev pub valueOf : ℕ → ℕ → Plan
 valueOf P Q =
     record {
       period = P;
@@ -98,7 +94,7 @@ abbrev pub refused : ℕ → ℕ → Outcome
 refused n place = reading (refusedReading n place)
 
 -- the sums told: of how many records, and the sixteen places
-abbrev tells : ℕ → List ℕ → Outcome
+abbrev pub tells : ℕ → List ℕ → Outcome
 tells count places = sums (record { records = count; told = places })
 
 -- seventeen numbers, of which those of 0, 1 and 2 are given
@@ -405,8 +401,6 @@ cases =
     ∷ record { input = calls planA (offer 0 0 2 ∷ []); outcome = answers 0 (told 0 0 3 1 (pos 0) 17 ∷ []) }
     -- l: "fresh, domain 1 yields 3: 23; 2 is taken"
     ∷ record { input = calls planA (yield 1 3 ∷ yield 1 2 ∷ []); outcome = answers 0 (yields 23 (pos 1) ∷ yields 0 (pos 3) ∷ []) }
-    -- 'Misreadings to rule out': "Summing Q over records off the chain"
-    ∷ record { input = file leftOver; outcome = accepted 4 2 }
     -- document 02, Point 3: "After each record taken the walk also tells the sum over the domains met so far"
     ∷ record { input = summed planA; outcome = tells 2 (2 ∷ 3 ∷ replicate 14 0) }
     -- 10 is "still told only at the chain's end": behind a 6, whose record adds nothing

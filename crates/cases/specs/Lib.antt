@@ -2,5 +2,6 @@
 pub mod Case
 pub mod Cases
 pub mod Forecasts
+pub mod Leftovers
 pub mod Starred
 pub mod Premise

@@ -8,11 +8,11 @@ use lib.ListN.{length, take}
 use lib.Dec.{eqb, ltb}
 use Rattle.table.specs.Sums.{nth}
 use Rattle.table.specs.Lines.{firstOf}
-use Rattle.plan.specs.Value.{planOf, reservedOf}
+use Rattle.plan.specs.Value.{reservedOf}
 use Rattle.plan.specs.Records.{periodIn}
 use Rattle.plan.specs.Chain.{chainOf, domainsIn, sumsIn, lastSum}
 use Rattle.plan.specs.Walk.{sumsHeld}
-use Rattle.plan.specs.Reading.{headTable, refusedReading, acceptedReading, wayTable, readPlan}
+use Rattle.plan.specs.Reading.{headTable, refusedReading, wayTable, taken, readWithLeftovers}
 use Rattle.plan.specs.declared.chain.Sums.{Sums}
 use Rattle.plan.specs.declared.reading.Reading.{Reading}
 
@@ -31,11 +31,9 @@ abbrev pub SumsArePlain : Type 0
 SumsArePlain = (s : List ℕ) → PlainSums s
 
 -- reading as it was defined before the point: the domains of the chain are summed at its end
-abbrev pub readEarlier : List ℕ → Reading
-readEarlier s =
-    firstOf (wayTable s ++ ((ltb (periodIn s) (reservedOf (domainsIn s)), refusedReading 10 0) ∷ []))
-    (acceptedReading (planOf (periodIn s) (domainsIn s)))
+abbrev pub readSummedAtEnd : List ℕ → Reading
+readSummedAtEnd s = firstOf (wayTable s ++ ((ltb (periodIn s) (reservedOf (domainsIn s)), refusedReading 10 0) ∷ [])) (taken s)
 
--- "No answer of the reader changes."
+-- "No answer of the reader changes." The reader that the point found took leftovers.
 abbrev pub NoAnswerChanges : Type 0
-NoAnswerChanges = (s : List ℕ) → readPlan s ≡ readEarlier s
+NoAnswerChanges = (s : List ℕ) → readWithLeftovers s ≡ readSummedAtEnd s

@@ -1,16 +1,22 @@
 -- What the walk keeps and answers, read off the chain's definitions: the contracts of the code that follows a chain.
 -- Assumes nothing.
 use Prim.Native.Nat.{ℕ, _+_, _-_}
-use mathlib.Core.List.{List, _++_}
+use mathlib.Core.Bool.{Bool, not}
+use mathlib.Core.List.{List, [], _∷_, _++_}
 use lib.ListN.{length, set, replicate}
-use Rattle.table.specs.Members.{lastOf}
+use lib.Dec.{eqb, ltb}
+use Rattle.table.specs.Members.{has, lastOf}
+use Rattle.table.specs.Ranges.{valuesBelow}
+use Rattle.table.specs.Lines.{firstOf}
 use Rattle.plan.specs.Value.{reserves, withDomain, planOf}
 use Rattle.plan.specs.Records.{periodIn}
 use Rattle.plan.specs.Chain.{link, fault, chainOf, domainsAt, sumsAt}
+use Rattle.plan.specs.Reading.{refusedReading, acceptedReading}
 use Rattle.plan.specs.declared.value.Domain.{Domain}
 use Rattle.plan.specs.declared.chain.Sums.{Sums}
 use Rattle.plan.specs.declared.chain.Gathered.{Gathered}
 use Rattle.plan.specs.declared.chain.Walked.{Walked}
+use Rattle.plan.specs.declared.reading.Reading.{Reading}
 
 -- Sums as an answer holds them: how many they are, and sixteen places with zeros behind the last.
 abbrev pub sumsHeld : List ℕ → Sums
@@ -29,7 +35,23 @@ abbrev pub withRecord : Gathered → Domain → Gathered
 withRecord g d =
     record { plan = withDomain (g .plan) d; sum = g .sum + reserves d; sums = withSum (g .sums) (g .sum + reserves d) }
 
--- What following the chain comes to: refusal, place, plan and sums are read off the records taken. At the chain's end the
--- link is 0, and so is the place.
+-- which of the 64 records that a file can have are those of `chain`
+abbrev pub seenAt : List ℕ → List Bool
+seenAt chain = valuesBelow (λ (i : ℕ). has i chain) 64
+
+-- What the walk answers after the records of `chain`: refusal, place, plan, sums and flags are read off them. At the
+-- chain's end the link is 0, and so is the place.
+abbrev pub walkedAt : List ℕ → List ℕ → Walked
+walkedAt s chain = record { refused = fault s chain; place = link s chain; gathered = gatheredAt s chain; seen = seenAt chain }
+
 abbrev pub walkedOf : List ℕ → Walked
-walkedOf s = record { refused = fault s (chainOf s); place = link s (chainOf s); gathered = gatheredAt s (chainOf s) }
+walkedOf s = walkedAt s (chainOf s)
+
+-- what reading by the earlier rule makes of a walk, where length and record 0 are in order
+abbrev pub walkedReading : Walked → Reading
+walkedReading w =
+    firstOf
+    ((not (eqb (w .refused) 0), refusedReading (w .refused) (w .place))
+    ∷ (ltb (w .gathered .plan .period) (w .gathered .sum), refusedReading 10 0)
+    ∷ [])
+    (acceptedReading (w .gathered .plan))

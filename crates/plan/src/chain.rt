@@ -29,11 +29,12 @@ pub struct Gathered {
 }
 
 // What following the chain came to: the refusal that ended it and the index it was met at, or 0 and 0 at the chain's
-// end; and what was gathered before.
+// end; what was gathered before; and which records were taken.
 pub struct Walked {
     pub refused: u8,
     pub place: u16,
     pub gathered: Gathered,
+    pub seen: [bool; 64],
 }
 
 // Is an unlisted byte of a domain record not zero, or the mark's byte above 1?
@@ -146,6 +147,7 @@ pub(crate) fn walk(file: &[u8]) -> Walked
                 refused,
                 place: i,
                 gathered,
+                seen,
             };
         }
         let b = records::record_part(file, at);
@@ -158,5 +160,6 @@ pub(crate) fn walk(file: &[u8]) -> Walked
         refused: 0,
         place: 0,
         gathered,
+        seen,
     }
 }

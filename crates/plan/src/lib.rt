@@ -1,11 +1,13 @@
 // Plans: the plan value, the plan file, and the way between the two.
 //
 // check(p): would a plan held as a value be accepted? 2, 9, 11 or 10 with its place, or 0.
-// read(file): the plan of a file, or a refusal 1 to 11 with its place, for any bytes.
+// read(file): the plan of a file, or a refusal 1 to 12 with its place, for any bytes.
+// read_with_leftovers(file): the same by the earlier rule, which takes leftovers: it never answers 12.
 // sums_told(file): how many records the walk along the chain takes, and the sum of both reservations after each, for any bytes.
 // write(p, buffer): the file of a plan, in lent bytes; 2, 9, 11, 10 or 51, or the bytes written.
 // write_and_read(p, buffer): a plan written and read again; its contract is the round trip.
 mod chain;
+mod leftovers;
 mod reading;
 mod records;
 mod roundtrip;
@@ -16,6 +18,7 @@ mod writing;
 pub use chain::Sums;
 pub use reading::Reading;
 pub use reading::read;
+pub use reading::read_with_leftovers;
 pub use roundtrip::write_and_read;
 pub use sums::sums_told;
 pub use value::Domain;

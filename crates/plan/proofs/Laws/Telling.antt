@@ -11,11 +11,11 @@ use borrow.Author.Tests.{eq-eqb, ne-eqb}
 use Rattle.table.specs.Sums.{nth}
 use Rattle.table.specs.Lines.{firstOf}
 use Rattle.table.proofs.Tables.{miss, hit}
-use Rattle.plan.specs.Value.{planOf, reservedOf}
+use Rattle.plan.specs.Value.{reservedOf}
 use Rattle.plan.specs.Records.{periodIn, domainAt}
 use Rattle.plan.specs.Chain.{chainOf, AtMostSixteen, domainsIn, sumsIn}
 use Rattle.plan.specs.Walk.{sumsHeld, walkedOf}
-use Rattle.plan.specs.Reading.{headTable, refusedReading, acceptedReading, wayTable, readPlan}
+use Rattle.plan.specs.Reading.{headTable, refusedReading, wayTable, taken, readWithLeftovers}
 use Rattle.plan.specs.Sums.{sumsTold, SumsArePlain, NoAnswerChanges}
 use Rattle.plan.specs.declared.chain.Walked.{Walked}
 use Rattle.plan.proofs.Laws.Sums.{sums-length, sums-at, sums-all}
@@ -42,12 +42,9 @@ pub at-most-sixteen : AtMostSixteen
 at-most-sixteen s = omega (arith, length-map (chainOf s) (domainAt s), chain-held s .count)
 
 pub no-answer-changes : NoAnswerChanges
-unfolding readPlan
+unfolding readWithLeftovers
 no-answer-changes s =
-    ap
-    (λ (n : ℕ).
-    firstOf (wayTable s ++ ((ltb (periodIn s) n, refusedReading 10 0) ∷ [])) (acceptedReading (planOf (periodIn s) (domainsIn s))))
-    (sums-are-plain s .last)
+    ap (λ (n : ℕ). firstOf (wayTable s ++ ((ltb (periodIn s) n, refusedReading 10 0) ∷ [])) (taken s)) (sums-are-plain s .last)
 
 -- the sums told of a file: those of its walk, or none where its length or record 0 is refused
 module _ (s : List ℕ) (n : ℕ) (e : n ≡ firstOf (headTable s) 0) where

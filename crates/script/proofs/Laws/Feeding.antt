@@ -17,7 +17,7 @@ use Rattle.table.proofs.Tables.{miss, hit, both, and-both}
 use Rattle.plan.specs.Value.{planRefusal}
 use Rattle.plan.specs.Reading.{readPlan}
 use Rattle.plan.specs.declared.value.Refusal.{Refusal}
-use Rattle.plan.proofs.Laws.Reading.{read-is-accepted}
+use Rattle.plan.proofs.Laws.Leftovers.{read-is-accepted}
 use Rattle.regulator.specs.State.{Shaped, addsUp}
 use Rattle.regulator.specs.Calls.{openPlan}
 use Rattle.regulator.specs.declared.state.State.{State}
