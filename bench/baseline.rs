@@ -1,5 +1,6 @@
-//! The replay program of document 01 in Rust, with the writeback reservations, the sum of steps and the yields by
-//! forecast of document 02's Points 6, 9 and 11, written for speed: what the bench holds `replay` against.
+//! The replay program of document 01 in Rust, with the refusal of leftovers, the writeback reservations, the sum of
+//! steps and the yields by forecast of document 02's Points 5, 6, 9 and 11, written for speed: what the bench holds
+//! `replay` against.
 //!
 //! Lines are read where they lie in one block of input, and output leaves in one block, so memory is the same
 //! for any script and any line. All domains are handled at once by bit masks (bit n is number n), and masks
@@ -120,6 +121,12 @@ fn read_plan(file: &[u8]) -> Result<Plan, PlanRefusal> {
     let reserved = |d: &Domain| d.reservation as u32 + d.writeback_reservation as u32;
     if domains.iter().map(reserved).sum::<u32>() > period as u32 {
         return refuse(10, 0);
+    }
+    // Leftovers: records off the chain, from 1 up, that are not all zero.
+    for (index, record) in records.iter().enumerate().skip(1) {
+        if !taken[index] && any_set(record) {
+            return refuse(12, index);
+        }
     }
     Ok(Plan { period, domains })
 }

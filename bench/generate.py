@@ -31,7 +31,8 @@ def record(*fields):
 
 
 def plan_bytes(period, domains):
-    """domains: a list of (number, reservation, reclaim cap, writeback cap, writeback reservation, mark)."""
+    """domains: a list of (number, reservation, reclaim cap, writeback cap, writeback reservation, mark). The chain
+    takes in every record, so there are no leftovers."""
     parts = [record((0, 2, period), (2, 2, 1 if domains else 0))]
     for index, (number, q, r, w, v, mark) in enumerate(domains, 1):
         following = index + 1 if index < len(domains) else 0

@@ -12,7 +12,7 @@ use Rattle.plan.specs.Value.{reservedOf}
 use Rattle.plan.specs.Records.{periodIn}
 use Rattle.plan.specs.Chain.{chainOf, domainsIn, sumsIn, lastSum}
 use Rattle.plan.specs.Walk.{sumsHeld}
-use Rattle.plan.specs.Reading.{headTable, refusedReading, wayTable, taken, readWithLeftovers}
+use Rattle.plan.specs.Reading.{headTable, refusedReading, wayTable, acceptedOf, readWithLeftovers}
 use Rattle.plan.specs.declared.chain.Sums.{Sums}
 use Rattle.plan.specs.declared.reading.Reading.{Reading}
 
@@ -32,7 +32,7 @@ SumsArePlain = (s : List ℕ) → PlainSums s
 
 -- reading as it was defined before the point: the domains of the chain are summed at its end
 abbrev pub readSummedAtEnd : List ℕ → Reading
-readSummedAtEnd s = firstOf (wayTable s ++ ((ltb (periodIn s) (reservedOf (domainsIn s)), refusedReading 10 0) ∷ [])) (taken s)
+readSummedAtEnd s = firstOf (wayTable s ++ ((ltb (periodIn s) (reservedOf (domainsIn s)), refusedReading 10 0) ∷ [])) (acceptedOf s)
 
 -- "No answer of the reader changes." The reader that the point found took leftovers.
 abbrev pub NoAnswerChanges : Type 0

@@ -1,17 +1,17 @@
 -- What the walk keeps and answers, read off the chain's definitions: the contracts of the code that follows a chain.
 -- Assumes nothing.
 use Prim.Native.Nat.{ℕ, _+_, _-_}
-use mathlib.Core.Bool.{Bool, not}
+use mathlib.Core.Bool.{Bool, cond, not}
 use mathlib.Core.List.{List, [], _∷_, _++_}
 use lib.ListN.{length, set, replicate}
 use lib.Dec.{eqb, ltb}
 use Rattle.table.specs.Members.{has, lastOf}
 use Rattle.table.specs.Ranges.{valuesBelow}
 use Rattle.table.specs.Lines.{firstOf}
-use Rattle.plan.specs.Value.{reserves, withDomain, planOf}
+use Rattle.plan.specs.Value.{noDomains, reserves, withDomain, planOf}
 use Rattle.plan.specs.Records.{periodIn}
 use Rattle.plan.specs.Chain.{link, fault, chainOf, domainsAt, sumsAt}
-use Rattle.plan.specs.Reading.{refusedReading, acceptedReading}
+use Rattle.plan.specs.Reading.{headTable, refusedReading, acceptedReading}
 use Rattle.plan.specs.declared.value.Domain.{Domain}
 use Rattle.plan.specs.declared.chain.Sums.{Sums}
 use Rattle.plan.specs.declared.chain.Gathered.{Gathered}
@@ -47,7 +47,15 @@ walkedAt s chain = record { refused = fault s chain; place = link s chain; gathe
 abbrev pub walkedOf : List ℕ → Walked
 walkedOf s = walkedAt s (chainOf s)
 
--- what reading by the earlier rule makes of a walk, where length and record 0 are in order
+-- the same where 1 to 3 refuse the file, with n: no link is followed
+abbrev pub notWalked : ℕ → Walked
+notWalked n = record { refused = n; place = 0; gathered = record { plan = noDomains 0; sum = 0; sums = sumsHeld [] }; seen = seenAt [] }
+
+-- the way to the chain's end, for any bytes
+unfoldable pub wayOf : List ℕ → Walked
+wayOf s = let head = firstOf (headTable s) 0 in cond (eqb head 0) (walkedOf s) (notWalked head)
+
+-- what reading by the earlier rule makes of it
 abbrev pub walkedReading : Walked → Reading
 walkedReading w =
     firstOf

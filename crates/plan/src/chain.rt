@@ -12,7 +12,7 @@ ghost use Rattle.table.specs.Lines.{firstOf};
 ghost use Rattle.plan.specs.Value.{noDomains};
 ghost use Rattle.plan.specs.Records.{recordAt};
 ghost use Rattle.plan.specs.Chain.{unlisted, linkTable, recordTable};
-ghost use Rattle.plan.specs.Walk.{sumsHeld, withSum, withRecord, walkedOf};
+ghost use Rattle.plan.specs.Walk.{sumsHeld, withSum, withRecord, walkedOf, notWalked};
 
 // The sums that the walk tells: how many records it took, and after each of them the sum of what the domains met so far
 // reserve. Zeros stand behind the last.
@@ -86,7 +86,7 @@ fn following(file: &[u8], period: u16, seen: [bool; 64], planned: [bool; 16], i:
 }
 
 // No sum told yet.
-pub(crate) fn no_sums() -> Sums
+fn no_sums() -> Sums
     ensures { λ r. ⌜ r ≡ sumsHeld [] ⌝ }
 {
     Sums {
@@ -127,6 +127,20 @@ fn gather(g: Gathered, d: Domain) -> Gathered
     let sum = g.sum + value::reserves(d);
     let sums = with_sum(g.sums, sum);
     Gathered { plan, sum, sums }
+}
+
+// Nothing followed, since the file's length or record 0 is refused.
+pub(crate) fn not_walked(refused: u8) -> Walked
+    ensures { λ r. ⌜ r ≡ notWalked refused ⌝ }
+{
+    let gathered = nothing_gathered(0);
+    let seen = [false; 64];
+    Walked {
+        refused,
+        place: 0,
+        gathered,
+        seen,
+    }
 }
 
 // Follows the chain of a file whose length and record 0 are in order.

@@ -8,7 +8,7 @@ use crate::value::Plan;
 ghost use mathlib.Core.Path.{_≡_};
 ghost use Rattle.table.specs.Lines.{firstOf};
 ghost use Rattle.plan.specs.Reading.{noLength, headTable, refusedReading, readWithLeftovers, readPlan};
-ghost use Rattle.plan.specs.Walk.{walkedReading};
+ghost use Rattle.plan.specs.Walk.{wayOf, walkedReading};
 
 // What reading answers: the refusal and its place, or 0, 0 and the plan. A refusal's plan is all zeros.
 pub struct Reading {
@@ -25,7 +25,7 @@ fn no_length(n: usize) -> bool
 }
 
 // The refusal that the file's length or record 0 draws, 1 to 3, or 0.
-pub(crate) fn head_refusal(file: &[u8]) -> u8
+fn head_refusal(file: &[u8]) -> u8
     ensures { λ r. ⌜ r ≡ firstOf (headTable (now (file .entry))) 0 ⌝ }
 {
     if no_length(file.len()) {
@@ -53,7 +53,18 @@ pub(crate) fn refusal_at(number: u8, place: u16) -> Reading
     }
 }
 
-// What a walk comes to by the earlier rule: the refusal met on the way, 10 at the chain's end, or the plan.
+// The way to the chain's end, for any bytes: length and record 0, then the chain.
+pub(crate) fn way(file: &[u8]) -> Walked
+    ensures { λ r. ⌜ r ≡ wayOf (now (file .entry)) ⌝ }
+{
+    let head = head_refusal(file);
+    if head != 0 {
+        return chain::not_walked(head);
+    }
+    chain::walk(file)
+}
+
+// What it comes to by the earlier rule: the refusal met on the way, 10 at the chain's end, or the plan.
 fn walked_reading(w: Walked) -> Reading
     ensures { λ r. ⌜ r ≡ walkedReading w ⌝ }
 {
@@ -75,23 +86,14 @@ fn walked_reading(w: Walked) -> Reading
 pub fn read_with_leftovers(file: &[u8]) -> Reading
     ensures { λ r. ⌜ r ≡ readWithLeftovers (now (file .entry)) ⌝ }
 {
-    let head = head_refusal(file);
-    if head != 0 {
-        return refusal_at(head, 0);
-    }
-    let w = chain::walk(file);
-    walked_reading(w)
+    walked_reading(way(file))
 }
 
 // The plan of a file, for any bytes.
 pub fn read(file: &[u8]) -> Reading
     ensures { λ r. ⌜ r ≡ readPlan (now (file .entry)) ⌝ }
 {
-    let head = head_refusal(file);
-    if head != 0 {
-        return refusal_at(head, 0);
-    }
-    let w = chain::walk(file);
+    let w = way(file);
     let earlier = walked_reading(w);
     if earlier.refused != 0 {
         return earlier;

@@ -1,5 +1,4 @@
 // The sums of what the domains of a plan file reserve, as the walk tells them on its way.
-use crate::chain;
 use crate::chain::Sums;
 use crate::reading;
 ghost use mathlib.Core.Path.{_≡_};
@@ -10,9 +9,6 @@ ghost use Rattle.plan.specs.Sums.{sumsTold};
 pub fn sums_told(file: &[u8]) -> Sums
     ensures { λ r. ⌜ r ≡ sumsTold (now (file .entry)) ⌝ }
 {
-    if reading::head_refusal(file) != 0 {
-        return chain::no_sums();
-    }
-    let w = chain::walk(file);
+    let w = reading::way(file);
     w.gathered.sums
 }

@@ -14,13 +14,13 @@ use Rattle.table.specs.Ranges.{someBelow, lowest}
 use Rattle.table.specs.Lines.{Line, firstOf}
 use Rattle.table.proofs.Tables.{miss, hit, neg, unapplied, first-more, applied, never}
 use Rattle.table.proofs.Filling.{values-at}
-use Rattle.table.proofs.Searches.{Lowest, lowest-is, lowest-some, some-all, some-at}
+use Rattle.table.proofs.Searches.{lowest-is, lowest-some, some-all, some-at}
 use Rattle.plan.specs.Value.{Sized, planRefusal, refusal}
 use Rattle.plan.specs.Records.{zeros, recordAt, recordCount, periodIn, numberAt}
 use Rattle.plan.specs.Chain.{linkTable, recordTable, link, faultAt, fault, chainOf, lastSum}
-use Rattle.plan.specs.Reading.{headTable, refusedReading, earlierTable, leftover, leftoverLine, taken, readPlan, readWithLeftovers}
+use Rattle.plan.specs.Reading.{headTable, refusedReading, earlierTable, leftover, leftoverLine, acceptedOf, readPlan, readWithLeftovers}
 use Rattle.plan.specs.Walk.{seenAt}
-use Rattle.plan.specs.Leftovers.{EarlierOrTwelve, Left, Twelve, TwelveForLeftovers}
+use Rattle.plan.specs.Leftovers.{EarlierOrTwelve, Left, TwelveForLeftovers}
 use Rattle.plan.specs.RoundTrip.{ReadIsAccepted}
 use Rattle.plan.specs.declared.reading.Reading.{Reading}
 use Rattle.plan.proofs.Laws.Reading.{good, earlier-is-accepted}
@@ -47,13 +47,13 @@ module _ (s : List ℕ) where
   pub read-refused : readWithLeftovers s .refused ≢ 0 → readPlan s ≡ readWithLeftovers s
   unfolding readPlan readWithLeftovers
   read-refused f =
-      first-more (earlierTable s) (leftoverLine s) (taken s)
-      ∙ applied (λ (r : Reading). r .refused) (earlierTable s) (taken s) (cond some (refusedReading 12 first) (taken s)) refl f
+      first-more (earlierTable s) (leftoverLine s) (acceptedOf s)
+      ∙ applied (λ (r : Reading). r .refused) (earlierTable s) (acceptedOf s) (cond some (refusedReading 12 first) (acceptedOf s)) refl f
 
   module _ (ok : readWithLeftovers s .refused ≡ 0) where
-    past : readPlan s ≡ cond some (refusedReading 12 first) (taken s)
+    past : readPlan s ≡ cond some (refusedReading 12 first) (acceptedOf s)
     unfolding readPlan
-    past = first-more (earlierTable s) (leftoverLine s) (taken s) ∙ unapplied (earlierTable s) _ (good s ok .clear)
+    past = first-more (earlierTable s) (leftoverLine s) (acceptedOf s) ∙ unapplied (earlierTable s) _ (good s ok .clear)
 
     -- of what it takes, 12 is told where there is a leftover, and else its answer
     pub read-left : some ≡ true → readPlan s ≡ refusedReading 12 first
@@ -91,7 +91,7 @@ module _ (s : List ℕ) where
       on false e = never (λ (n : ℕ). n) 12 lines 0 tt (λ z. omega arith) e
 
       go : (a b c : Bool) → firstOf (headTable s) 0 ≢ 12 → fault s (chainOf s) ≢ 12
-          → cond a (refusedReading (firstOf (headTable s) 0) 0) (cond b (refusedReading (fault s (chainOf s)) at) (cond c (refusedReading 10 0) (taken s))) .refused ≢ 12
+          → cond a (refusedReading (firstOf (headTable s) 0) 0) (cond b (refusedReading (fault s (chainOf s)) at) (cond c (refusedReading 10 0) (acceptedOf s))) .refused ≢ 12
       go true b c f g e = f e
       go false true c f g e = g e
       go false false true f g e = omega arith

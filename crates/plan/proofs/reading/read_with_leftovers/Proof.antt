@@ -1,28 +1,14 @@
 -- `plan::reading::read_with_leftovers` meets its contract.
 -- Assumes nothing.
-use mathlib.Core.Path.{_≡_, sym, _∙_}
+use mathlib.Core.Path.{ap, _∙_}
 use borrow.Author.Needs.{needs}
-use Rattle.table.specs.Lines.{firstOf}
-use Rattle.plan.specs.Reading.{headTable}
-use Rattle.plan.proofs.Laws.Reading.{head-whole, earlier-head, earlier-walked}
+use Rattle.plan.specs.Walk.{walkedReading}
+use Rattle.plan.proofs.Laws.Reading.{earlier-is}
 use Rattle.plan.proofs.reading.read_with_leftovers.Statement.{statement}
 use Rattle.plan.proofs.reading.read_with_leftovers.Tie as tie
 
 returns : tie.Need-returns
-returns c = c .refusal-at .ensures ∙ sym (earlier-head _ _ (c .before .before .head-refusal .ensures) (c .before .if1 .taken))
-
--- length and record 0 are in order
-headed : (c : tie.Else1) → firstOf (headTable (c .before .before .before .args .file .now)) 0 ≡ 0
-headed c = sym (c .before .head-refusal .ensures) ∙ c .if1 .left
-
-walk-requires : tie.Need-walk-requires
-walk-requires c κs =
-    let w = head-whole (c .before .before .before .args .file .now) (headed c) in
-    (w .long, w .short)
-
-returns-2 : tie.Need-returns-2
-returns-2 c = c .walked-reading .ensures ∙ earlier-walked _ (headed (c .before .before)) _ (c .before .walk .ensures)
+returns c = c .walked-reading .ensures ∙ ap walkedReading (c .before .way .ensures) ∙ earlier-is (c .before .before .before .args .file .now)
 
 pub read-with-leftovers-spec : {M : Type 1} → statement M
-read-with-leftovers-spec =
-    tie.close (tie.spec (λ c κs. search needs) (λ c κs. search needs) returns walk-requires (λ c κs. search needs) returns-2)
+read-with-leftovers-spec = tie.close (tie.spec (λ c κs. search needs) (λ c κs. search needs) returns)
