@@ -134,3 +134,23 @@ pub fn walk(file: &[u8], period: u32) -> Walked {
         domains,
     }
 }
+
+// The lowest record from 1 up that is none of the first records of the chain, as many as there are steps, and is not all zero;
+// 0 for none. A record that the file does not have reads as zeros.
+pub fn lowest_leftover(file: &[u8], steps: u32) -> u32 {
+    let mut index = 1;
+    while index < 64 {
+        if is_leftover(file, steps, index) {
+            return index;
+        }
+        index += 1;
+    }
+    0
+}
+
+fn is_leftover(file: &[u8], steps: u32, index: u32) -> bool {
+    if record::zeros(file, index, 0, 16) {
+        return false;
+    }
+    !repeats(file, steps, index, false)
+}

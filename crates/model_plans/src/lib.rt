@@ -33,7 +33,8 @@ fn refused(number: u32, place: u32) -> Answer {
     }
 }
 
-pub fn read(file: &[u8]) -> Answer {
+// Reading by the rule of before leftovers were refused: what stands in a record off the chain is not looked at.
+pub fn read_with_leftovers(file: &[u8]) -> Answer {
     let opening = record::opening(file);
     if opening != 0 {
         return refused(opening, 0);
@@ -54,6 +55,18 @@ pub fn read(file: &[u8]) -> Answer {
         period,
         domains,
     }
+}
+
+pub fn read(file: &[u8]) -> Answer {
+    let earlier = read_with_leftovers(file);
+    if earlier.number != 0 {
+        return earlier;
+    }
+    let leftover = chain::lowest_leftover(file, along::taken(file, earlier.period));
+    if leftover != 0 {
+        return refused(12, leftover);
+    }
+    earlier
 }
 
 // What the walk along the chain of a file tells.

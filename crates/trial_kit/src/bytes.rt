@@ -2,12 +2,14 @@
 ghost use Prim.Native.Nat.{_<_, _≤_};
 use super::draw;
 
-// How bytes are filled: any, mostly zero, or as records whose fields are small.
+// How bytes are filled: any, mostly zero, as records whose fields are small, or with zeros.
 pub const ANY: u32 = 0;
 
 pub const SPARSE: u32 = 1;
 
 pub const SMALL: u32 = 2;
+
+pub const ZEROS: u32 = 3;
 
 // How much of a buffer is lent where so much is asked for.
 pub fn least(a: usize, b: usize) -> usize
@@ -38,6 +40,25 @@ pub fn put_pair(file: &mut [u8], record: u32, offset: u32, value: u32) {
     let at = place(record, offset);
     put(file, at, draw::low(value));
     put(file, at + 1, draw::low(value / 256));
+}
+
+// The number of two bytes at an offset of a record.
+pub fn pair(file: &[u8], record: u32, offset: u32) -> u32
+    ensures { λ r. ⌜ r < 65536 ⌝ }
+{
+    let at = place(record, offset);
+    wide(get(file, at)) + wide(get(file, at + 1)) * 256
+}
+
+fn wide(b: u8) -> u32
+    ensures { λ r. ⌜ r < 256 ⌝ }
+{
+    b as u32
+}
+
+// Where a record has its link.
+pub fn link_offset(record: u32) -> u32 {
+    if record == 0 { 2 } else { 0 }
 }
 
 // A record of six numbers, each two bytes, and zeros.
@@ -82,7 +103,8 @@ fn filling(seed: u32, style: u32, at: u32) -> u8 {
         } else {
             0
         },
-        _ => small_byte(drawn, at),
+        2 => small_byte(drawn, at),
+        _ => 0,
     }
 }
 

@@ -1,11 +1,12 @@
-// What the test programs share: bytes put and filled, drawn numbers, drawn plans, the lines of a text, plan files given as
-// such lines, the counts of what was compared, and their lines.
+// What the test programs share: bytes put and filled, the records of a file off its chain, drawn numbers, drawn plans, the
+// lines of a text, plan files given as such lines, the counts of what was compared, and their lines.
 pub mod bytes;
 pub mod draw;
 pub mod given;
 pub mod lines;
 pub mod plans;
 pub mod report;
+pub mod rest;
 pub mod styles;
 pub mod tally;
 pub mod values;

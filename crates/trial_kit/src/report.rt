@@ -11,13 +11,22 @@ pub fn say_number(text: &[u8], x: u32) {
     io::print_decimal(STDOUT_FILENO, x as u64);
 }
 
-// What was compared of a kind, after its name.
-pub fn counts_line(t: Tally) {
+// What was compared of a kind, after its name, but for what differed.
+pub fn counts(t: Tally) {
     say_number(b": compared ", t.compared);
     say_number(b", accepted ", t.accepted);
     say_number(b", refused ", t.refused);
+}
+
+// What differed, at the end of the line.
+pub fn differ_line(t: Tally) {
     say_number(b", differ ", t.differ);
     say(b"\n");
+}
+
+pub fn counts_line(t: Tally) {
+    counts(t);
+    differ_line(t);
 }
 
 // How often a refusal was told.

@@ -6,11 +6,12 @@ pub struct Verdict {
     pub same: bool,
 }
 
-// The counts of the kind at hand, those of all kinds, how often each refusal was told, and the first difference.
+// The counts of the kind at hand, of which leftovers are those refused with 12, those of all kinds, how often each refusal was told, and the first difference.
 pub struct Tally {
     pub compared: u32,
     pub accepted: u32,
     pub refused: u32,
+    pub leftovers: u32,
     pub differ: u32,
     pub allcompared: u32,
     pub alldiffer: u32,
@@ -28,6 +29,7 @@ pub fn start() -> Tally {
         compared: 0,
         accepted: 0,
         refused: 0,
+        leftovers: 0,
         differ: 0,
         allcompared: 0,
         alldiffer: 0,
@@ -43,6 +45,7 @@ pub fn next_kind(t: Tally) -> Tally {
     after.compared = 0;
     after.accepted = 0;
     after.refused = 0;
+    after.leftovers = 0;
     after.differ = 0;
     after
 }
@@ -59,6 +62,9 @@ fn with_told(t: Tally, number: u32) -> Tally {
         after.accepted = more(after.accepted);
     } else {
         after.refused = more(after.refused);
+    }
+    if number == 12 {
+        after.leftovers = more(after.leftovers);
     }
     after
 }

@@ -27,11 +27,6 @@ struct Laid {
     last: u32,
 }
 
-// Where a record has its link.
-pub fn link_offset(record: u32) -> u32 {
-    if record == 0 { 2 } else { 0 }
-}
-
 // The record of a domain, with no link behind it.
 fn put_domain(file: &mut [u8], p: Plan, record: u32, domain: u32) {
     let k = domain % 16 * 6;
@@ -55,7 +50,7 @@ fn with_domain(file: &mut [u8], p: Plan, order: [u32; 64], l: Laid, domain: u32)
     }
     if used < l.most {
         let index = record_at(order, used);
-        bytes::put_pair(file, l.last, link_offset(l.last), index);
+        bytes::put_pair(file, l.last, bytes::link_offset(l.last), index);
         put_domain(file, p, index, domain);
         Laid {
             used: used + 1,

@@ -1,4 +1,5 @@
 // The library and the model on one file, or on one plan held as a value and a lent buffer.
+ghost use Prim.Native.Nat.{_<_};
 use model_plans::Answer;
 use model_plans::Sums;
 use model_plans::Told;
@@ -100,6 +101,14 @@ fn expected(t: Told, period: u32, domains: [u32; 96]) -> Answer {
     }
 }
 
+// Writes a plan over the first bytes of a file, and answers the records written.
+pub fn write_over(file: &mut [u8], p: Plan) -> u32
+    ensures { λ r. ⌜ r < 64 ⌝ }
+{
+    let w = plan::write(p, file);
+    (w.bytes / 16 % 64) as u32
+}
+
 fn library_writes(p: Plan, buffer: &mut [u8], size: usize) -> Writing {
     let lent = bytes::least(size, buffer.len());
     plan::write(p, &mut buffer[0..lent])
@@ -175,17 +184,22 @@ pub fn value(p: Plan, size: u32, seed: u32) -> Verdict {
     }
 }
 
-// A file: read and walked, and where it is accepted, the plan written and read back. Whether the model answers as is stated
-// or known of the file stands beside.
+// A file: read by both rules and walked, and where the earlier rule takes it, the plan written and read back. Whether the model
+// answers as is stated or known of the file stands beside.
 pub fn file(file: &[u8], seed: u32, holds: bool) -> Verdict {
-    let r = plan::read(file);
     let a = model_plans::read(file);
-    let same = all3(same_answers(answer(r), a), same_walk(file), holds);
-    if a.number == 0 {
+    let e = model_plans::read_with_leftovers(file);
+    let r = plan::read_with_leftovers(file);
+    let readings = both(
+        same_answers(answer(plan::read(file)), a),
+        same_answers(answer(r), e),
+    );
+    let same = all3(readings, same_walk(file), holds);
+    if e.number == 0 {
         let p = r.plan;
         let back = value(p, BUFFER, seed);
         Verdict {
-            number: 0,
+            number: a.number,
             same: both(same, back.same),
         }
     } else {

@@ -96,15 +96,9 @@ fn damage_amount(file: &mut [u8], period: u32, record: u32, which: u32) {
     bytes::put_pair(file, record, 4 + k / 3 * 2, bad_amount(period, k % 3));
 }
 
-// W of the record.
-fn cap_of(file: &[u8], record: u32) -> u32 {
-    let at = bytes::place(record, 8);
-    bytes::get(file, at) as u32 + bytes::get(file, at + 1) as u32 * 256
-}
-
 // The writeback reservation put to one above W, the largest, P + 1, W, or 0.
 fn damage_reservation(file: &mut [u8], period: u32, record: u32, which: u32) {
-    let cap = cap_of(file, record);
+    let cap = bytes::pair(file, record, 8);
     let value = match which {
         0 => std::num::wrapping_add_u32(cap, 1),
         1 => 65535,
@@ -119,7 +113,7 @@ fn damage_reservation(file: &mut [u8], period: u32, record: u32, which: u32) {
 pub fn damage(file: &mut [u8], c: Chain, record: u32, fault: u32, seed: u32) {
     if fault < NUMBERS {
         let link = bad_link(c, record, fault, seed);
-        bytes::put_pair(file, record, chain::link_offset(record), link);
+        bytes::put_pair(file, record, bytes::link_offset(record), link);
         return;
     }
     if fault < UNLISTED {

@@ -1,20 +1,16 @@
-// The files of each kind.
+// The files of each kind, put where all bytes are zero; records off the chain stay so, but for those of the kinds from 30 on.
 ghost use Prim.Native.Nat.{_≤_};
 use super::chain;
 use super::chain::Chain;
 use super::compare;
 use super::faults;
+use super::leftovers;
+use super::leftovers::Made;
 use super::places;
-use plan::Plan;
 use trial_kit::bytes;
 use trial_kit::draw;
+use trial_kit::rest;
 use trial_kit::values;
-
-// A plan in so many records, those off the chain of any bytes.
-pub fn put_plan(file: &mut [u8], p: Plan, records: u32, seed: u32) -> Chain {
-    bytes::fill(file, compare::LONGEST, seed, bytes::ANY);
-    chain::lay(file, p, records, seed)
-}
 
 fn most_records(many: bool) -> u32
     ensures { λ r. ⌜ r ≤ 63 ⌝ }
@@ -23,13 +19,13 @@ fn most_records(many: bool) -> u32
 }
 
 // A plan that is accepted, in few records or in many.
-fn put_good(file: &mut [u8], seed: u32) -> Chain {
+pub fn put_good(file: &mut [u8], seed: u32) -> Chain {
     let records = 1 + draw::upto(seed, 5, most_records(draw::upto(seed, 6, 3) == 0));
-    put_plan(file, values::drawn(seed, values::GOOD), records, seed)
+    chain::lay(file, values::drawn(seed, values::GOOD), records, seed)
 }
 
 // How many bytes so many records are.
-fn bytes_of(records: u32) -> u32 {
+pub fn bytes_of(records: u32) -> u32 {
     records % 128 * 16
 }
 
@@ -37,7 +33,7 @@ fn bytes_of(records: u32) -> u32 {
 fn lengths(file: &mut [u8], case: u32, seed: u32) -> u32 {
     let whole = case / 16 % 128;
     let records = if whole == 0 { 1 } else { whole };
-    put_plan(file, values::drawn(seed, values::GOOD), records, seed);
+    chain::lay(file, values::drawn(seed, values::GOOD), records, seed);
     case
 }
 
@@ -80,7 +76,7 @@ fn one_fault(file: &mut [u8], fault: u32, seed: u32) -> u32 {
 }
 
 fn sums(file: &mut [u8], case: u32, seed: u32) -> u32 {
-    let c = put_plan(
+    let c = chain::lay(
         file,
         values::summed(seed, case),
         17 + draw::upto(seed, 5, 47),
@@ -189,23 +185,44 @@ fn put_laid(file: &mut [u8], kind: u32, case: u32, seed: u32) -> u32 {
     }
 }
 
-fn filling_of(kind: u32) -> u32 {
-    if kind == 13 {
-        bytes::ANY
-    } else {
-        bytes::SPARSE
+// The kinds of filled bytes.
+fn put_filled(file: &mut [u8], kind: u32, case: u32, seed: u32) -> u32 {
+    match kind {
+        13 | 38 => filled(file, bytes::ANY, case, seed),
+        14 | 39 => filled(file, bytes::SPARSE, case, seed),
+        _ => small(file, seed),
     }
 }
 
-// Puts the file of a case and answers its length.
-pub fn put(file: &mut [u8], kind: u32, case: u32, seed: u32) -> u32 {
+// The same, where the records off the chain are cleared.
+fn put_cleared(file: &mut [u8], kind: u32, case: u32, seed: u32) -> u32 {
+    let bytes = put_filled(file, kind, case, seed);
+    rest::clear(file);
+    bytes
+}
+
+// Puts the file of a case of which nothing is known, and answers its length.
+fn put_unknown(file: &mut [u8], kind: u32, case: u32, seed: u32) -> u32 {
     match kind {
         1..=8 | 26 | 28 => put_laid(file, kind, case, seed),
         9 => sums(file, case, seed),
         10 | 11 => two_faults(file, kind == 11, seed),
         12 => one_byte(file, case, seed),
-        13 | 14 => filled(file, filling_of(kind), case, seed),
-        15 => small(file, seed),
+        13..=15 => put_cleared(file, kind, case, seed),
+        38..=40 => put_filled(file, kind, case, seed),
         _ => places::put(file, kind, case, seed),
+    }
+}
+
+// Puts the file of a case.
+pub fn put(file: &mut [u8], kind: u32, case: u32, seed: u32) -> Made {
+    match kind {
+        30..=37 => leftovers::put(file, kind, case, seed),
+        _ => Made {
+            bytes: put_unknown(file, kind, case, seed),
+            known: false,
+            number: 0,
+            place: 0,
+        },
     }
 }

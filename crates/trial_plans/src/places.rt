@@ -2,9 +2,9 @@
 use super::chain;
 use super::chain::Chain;
 use super::faults;
-use super::files;
 use trial_kit::bytes;
 use trial_kit::draw;
+use trial_kit::rest;
 use trial_kit::tally::both;
 use trial_kit::values;
 
@@ -64,10 +64,9 @@ fn before(order: [u32; 64], taken: u32) -> u32 {
     }
 }
 
-// A damage that surely draws the fault; for none the link is put to 0.
+// A damage that surely draws the fault.
 fn damage_of(fault: u32, seed: u32) -> u32 {
     match fault {
-        0 => faults::LINKS + 5,
         4 => faults::LINKS + draw::upto(seed, 710, 2),
         5 => faults::LINKS + 3,
         6 => faults::NUMBERS + draw::upto(seed, 710, 2),
@@ -78,25 +77,52 @@ fn damage_of(fault: u32, seed: u32) -> u32 {
     }
 }
 
-// Ends the chain after the records taken, or puts the fault there: 4 and 5 into the link, the others into the next record.
-// The number that 7 repeats is one of those taken.
+// Ends the chain after so many of its records.
+pub fn end_chain(file: &mut [u8], c: Chain, taken: u32) {
+    let order = c.order;
+    let last = before(order, taken);
+    bytes::put_pair(file, last, bytes::link_offset(last), 0);
+}
+
+// Puts the fault behind the records taken: 4 and 5 into the link, the others into the next record. The number that 7 repeats
+// is one of those taken.
 fn put_spot(file: &mut [u8], c: Chain, s: Spot, seed: u32) {
     let order = c.order;
     let mut reached = c;
     reached.domains = s.taken;
     let from = before(order, s.taken);
     let to = chain::record_at(order, s.taken);
-    bytes::put_pair(file, from, chain::link_offset(from), to);
+    bytes::put_pair(file, from, bytes::link_offset(from), to);
     let record = if s.fault < 6 { from } else { to };
     faults::damage(file, reached, record, damage_of(s.fault, seed), seed);
 }
 
-// Puts the file of a case and answers its length: a chain of sixteen domains, and a record that may be behind it.
+// Puts a fault of 4 to 9 or 11 into a chain, at each place in turn.
+pub fn put_fault(file: &mut [u8], c: Chain, fault: u32, turn: u32, seed: u32) {
+    put_spot(
+        file,
+        c,
+        Spot {
+            fault,
+            taken: place(fault, turn),
+        },
+        seed,
+    );
+}
+
+// Puts the file of a case and answers its length: a chain of sixteen domains, and a record that may be behind it. Where there
+// is no fault, what the chain is cut from is cleared.
 pub fn put(file: &mut [u8], kind: u32, case: u32, seed: u32) -> u32 {
     let records = 18 + draw::upto(seed, 5, 46);
     let p = values::drawn(seed, style_of(kind, case));
-    let c = files::put_plan(file, p, records, seed);
-    put_spot(file, c, spot_of(kind, case), seed);
+    let c = chain::lay(file, p, records, seed);
+    let s = spot_of(kind, case);
+    if s.fault == 0 {
+        end_chain(file, c, s.taken);
+        rest::clear(file);
+        return records * 16;
+    }
+    put_spot(file, c, s, seed);
     records * 16
 }
 

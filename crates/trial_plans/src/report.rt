@@ -35,19 +35,37 @@ fn say_name(kind: u32) {
         writeback reservations around W\n\
         plan values with writeback reservations around W\n\
         marks of 0, 1, and more\n\
-        plan values with the mark of an absent domain\n",
+        plan values with the mark of an absent domain\n\
+        chains in any order, and any bytes off the chain\n\
+        one byte off the chain, at each place of the first record there, a middle one and the last\n\
+        several leftovers of a byte each\n\
+        several leftovers that are records of domains and name each other\n\
+        64 records, a chain of 0, 1 or 16, with and without a leftover\n\
+        a leftover beside each refusal of 1 to 11\n\
+        chains cut short, and what is cut off left over\n\
+        used buffers that a plan is written to, read whole\n\
+        random bytes, also off the chain\n\
+        sparse bytes, also off the chain\n\
+        records of small fields, also off the chain\n",
         kind as usize,
     );
 }
 
+// What was compared of a kind or of a stated case, after its name.
+pub fn counts_line(t: Tally) {
+    report::counts(t);
+    report::say_number(b", of them with 12: ", t.leftovers);
+    report::differ_line(t);
+}
+
 pub fn kind_line(t: Tally, kind: u32) {
     say_name(kind);
-    report::counts_line(t);
+    counts_line(t);
 }
 
 // The refusals, the total, and where something differed its first kind and case.
 pub fn last_lines(t: Tally) {
-    report::told_lines(t, &[1, 2, 3, 4, 5, 6, 7, 8, 9, 10, 11, 51]);
+    report::told_lines(t, &[1, 2, 3, 4, 5, 6, 7, 8, 9, 10, 11, 12, 51]);
     if t.alldiffer != 0 {
         say(b"first difference: ");
         say_name(t.firstkind);

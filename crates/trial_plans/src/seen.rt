@@ -8,29 +8,34 @@ use trial_kit::tally;
 use trial_kit::tally::Tally;
 use trial_kit::tally::Verdict;
 
-// The counts are lent. Nine rows of 17 say after how many records, 0 to 16, the walks ended: with 4 to 9 and 11, one row each,
-// at the chain's end, and before it began. Behind the rows stand other counts, in the order of their names below.
+// The counts are lent. Ten rows of 17 say after how many records, 0 to 16, the walks ended: with 4 to 9 and 11, one row each,
+// at the chain's end, there with a leftover, and before it began. Behind the rows stand other counts, in the order of their
+// names below.
 const END: u32 = 7;
 
-const SUMS: usize = 153;
+const LEFT: u32 = 8;
 
-const ABOVE: usize = 154;
+const SUMS: usize = 170;
 
-const WHOLE: usize = 155;
+const ABOVE: usize = 171;
 
-const MORE: usize = 156;
+const WHOLE: usize = 172;
 
-const MOST: usize = 157;
+const MORE: usize = 173;
 
-const OTHER: usize = 158;
+const MOST: usize = 174;
 
-// Those of plan values, which `writes` counts, and of marks, which `marks` counts.
-pub const WRITES: usize = 159;
+const OTHER: usize = 175;
 
-pub const MARKS: usize = 168;
+// Those of plan values, which `writes` counts, of marks, which `marks` counts, and of leftovers, which `found` counts.
+pub const WRITES: usize = 176;
+
+pub const MARKS: usize = 185;
+
+pub const LEFTOVERS: usize = 191;
 
 // No count.
-const NONE: usize = 180;
+const NONE: usize = 230;
 
 // A case compared: how many records were taken, the count of where the walk ended, and that of its sums.
 pub struct Outcome {
@@ -42,13 +47,14 @@ pub struct Outcome {
 
 // The row of a refusal.
 fn row_of(number: u32) -> u32
-    ensures { λ r. ⌜ r < 9 ⌝ }
+    ensures { λ r. ⌜ r < 10 ⌝ }
 {
     match number {
         0 | 10 => END,
+        12 => LEFT,
         4..=9 => number - 4,
         11 => 6,
-        _ => 8,
+        _ => 9,
     }
 }
 
@@ -56,9 +62,16 @@ fn row_of(number: u32) -> u32
 fn sums_of(row: u32, last: u32, period: u32) -> usize
     requires { ⌜ period < 65536 ⌝ }
 {
-    if row != END {
-        return if last > period { ABOVE } else { NONE };
+    match row {
+        END | LEFT => last_of(last, period),
+        _ => if last > period { ABOVE } else { NONE },
     }
+}
+
+// The count of a last sum at the chain's end.
+fn last_of(last: u32, period: u32) -> usize
+    requires { ⌜ period < 65536 ⌝ }
+{
     if last == period {
         return WHOLE;
     }
@@ -66,12 +79,6 @@ fn sums_of(row: u32, last: u32, period: u32) -> usize
         return MORE;
     }
     if last == 65536 { MOST } else { OTHER }
-}
-
-fn pair(low: u8, high: u8) -> u32
-    ensures { λ r. ⌜ r < 65536 ⌝ }
-{
-    low as u32 + high as u32 * 256
 }
 
 // A file that was compared. Where no record was taken, the sum read is the sixteenth, a zero.
@@ -85,7 +92,7 @@ pub fn of_file(file: &[u8], v: Verdict) -> Outcome {
         verdict: v,
         records: k,
         end: (17 * row + k) as usize,
-        sums: sums_of(row, last, pair(bytes::get(file, 0), bytes::get(file, 1))),
+        sums: sums_of(row, last, bytes::pair(file, 0, 0)),
     }
 }
 
@@ -131,7 +138,8 @@ fn say_name(k: usize) {
         refused with 8 after 0 to 16 records\n\
         refused with 9 after 0 to 16 records\n\
         refused with 11 after 0 to 16 records\n\
-        at the chain's end after 0 to 16 records\n\
+        accepted or refused with 10 after 0 to 16 records\n\
+        refused with 12 after 0 to 16 records\n\
         refused with 1 to 3 after 0 to 16 records\n\
         sums compared\n\
         refused with 4 to 9 or 11 after a sum above P\n\
@@ -148,14 +156,19 @@ fn say_name(k: usize) {
         plan values with such a domain that are refused with 9 at a lower one\n\
         marked domains of files that are accepted\n\
         files refused with 8 for a mark of 2 alone\n\
-        files refused with 8 for a larger mark alone\n",
+        files refused with 8 for a larger mark alone\n\
+        files refused with 12, and those of them that the earlier rule takes\n\
+        12 at record 1, 2 to 16, 17 to 62, and 63\n\
+        lowest leftovers of one byte alone, at byte 0 to 15 of the record\n\
+        files with a leftover that are refused with 1 to 11\n\
+        files of 64 records, accepted and refused with 12, with chains of 0, of 1 and of 16 records\n",
         k,
     );
 }
 
 // A name, and so many counts from one on.
 fn say_counts(seen: &[u32], name: usize, from: usize, counts: usize)
-    requires { ⌜ (from < 180) × (counts < 180) ⌝ }
+    requires { ⌜ (from < 230) × (counts < 230) ⌝ }
 {
     say_name(name);
     report::say(b":");
@@ -172,8 +185,12 @@ fn width(name: usize) -> usize
     ensures { λ r. ⌜ r ≤ 17 ⌝ }
 {
     match name {
-        0..=8 => 17,
-        15 => 6,
+        0..=9 => 17,
+        16 | 30 => 6,
+        26 => 2,
+        27 => 4,
+        28 => 16,
+        29 => 11,
         _ => 1,
     }
 }
@@ -181,9 +198,9 @@ fn width(name: usize) -> usize
 pub fn lines(seen: &[u32]) {
     let mut from: usize = 0;
     let mut name: usize = 0;
-    while name < 25 {
+    while name < 31 {
         let counts = width(name);
-        say_counts(seen, name, from % 180, counts);
+        say_counts(seen, name, from % 230, counts);
         from = std::num::wrapping_add_usize(from, counts);
         name += 1;
     }

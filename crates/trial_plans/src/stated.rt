@@ -1,5 +1,5 @@
 // Cases whose outcomes are stated, read as text lines. The first byte tells what a line is:
-//   case NAME                             a case begins, with an empty plan file and nothing due
+//   case NAME                             a case begins, with an empty plan file, zeros behind it, and nothing due
 //   file NNNNN NNNNN NNNNN NNNNN NNNNN NNNNN
 //                                         a record more of the plan file: its first six numbers of two bytes, where 256
 //                                         more than a domain number is a mark
@@ -10,11 +10,14 @@
 //   beside NN QQQQQ RRRRR WWWWW VVVVV     numbers of a domain that it has not planned
 //   mark NN                               a mark of a domain, planned or not, behind the domain's line
 //   read NN KKKKK                         reading tells this refusal and place, and the plan due (zeros where none is)
+//   earlier NN KKKKK                      the same of reading by the earlier rule, which takes leftovers
 //   told NNNNNNN                          a sum more that is due
 //   walk                                  the sums told are those due, and no other
 //   value NN KKKKK                        the plan due is held as a value: checking and writing it tell this refusal and place
-// What is due begins anew after `read`, `walk` and `value`.
+//   over                                  the plan due is written over the first bytes of the plan file
+// What is due begins anew after `read`, `earlier`, `walk`, `value` and `over`.
 use super::compare;
+use super::report;
 use super::seen;
 use super::seen::Outcome;
 use model_plans::Answer;
@@ -23,7 +26,6 @@ use model_plans::words;
 use trial_kit::bytes;
 use trial_kit::given::put_in_file;
 use trial_kit::lines;
-use trial_kit::report;
 use trial_kit::tally;
 use trial_kit::tally::Tally;
 use trial_kit::tally::Verdict;
@@ -103,16 +105,31 @@ fn with_size(p: Stand, size: usize) -> Stand {
     after
 }
 
-// The stand after a line; a case's name is behind the word.
+// The next case; its name is behind the word.
+fn next_case(p: Stand, at: usize, file: &mut [u8]) -> Stand {
+    bytes::fill(file, compare::LONGEST, 0, bytes::ZEROS);
+    begun(
+        tally::more(p.case),
+        std::num::wrapping_add_usize(at, 5),
+        0,
+        0,
+    )
+}
+
+// The library writes the plan due over the plan file; one that is refused leaves every byte.
+fn written_over(p: Stand, file: &mut [u8]) -> Stand {
+    let domains = p.domains;
+    let size = bytes::least(p.size, file.len());
+    compare::write_over(&mut file[0..size], values::plan_of(p.period, domains));
+    begun(p.case, p.named, p.size, 0)
+}
+
+// The stand after a line.
 fn stand_after(p: Stand, given: &[u8], at: usize, file: &mut [u8]) -> Stand {
     match lines::byte(given, at) {
-        b'c' => begun(
-            tally::more(p.case),
-            std::num::wrapping_add_usize(at, 5),
-            0,
-            0,
-        ),
-        b'r' | b'w' | b'v' => begun(p.case, p.named, p.size, 0),
+        b'c' => next_case(p, at, file),
+        b'o' => written_over(p, file),
+        b'r' | b'e' | b'w' | b'v' => begun(p.case, p.named, p.size, 0),
         b'p' => begun(p.case, p.named, p.size, lines::small(given, at, 5, 5)),
         b'd' => with_domain(p, given, at, 1),
         b'b' => with_domain(p, given, at, 0),
@@ -123,16 +140,16 @@ fn stand_after(p: Stand, given: &[u8], at: usize, file: &mut [u8]) -> Stand {
     }
 }
 
-// Whether the model reads the file as is due.
-fn reads(p: Stand, given: &[u8], at: usize, file: &[u8]) -> bool {
+// Whether the model's reading is as is due; the refusal stands at an offset of the line.
+fn reads(p: Stand, a: Answer, given: &[u8], at: usize, offset: usize) -> bool {
     let domains = p.domains;
     let due = Answer {
-        number: lines::small(given, at, 5, 2),
-        place: lines::small(given, at, 8, 5),
+        number: lines::small(given, at, offset, 2),
+        place: lines::small(given, at, std::num::wrapping_add_usize(offset, 3), 5),
         period: p.period,
         domains,
     };
-    compare::same_answers(model_plans::read(file), due)
+    compare::same_answers(a, due)
 }
 
 // Whether the model tells the sums that are due.
@@ -142,10 +159,10 @@ fn walks(p: Stand, file: &[u8]) -> bool {
 }
 
 fn holds(p: Stand, given: &[u8], at: usize, file: &[u8]) -> bool {
-    if lines::byte(given, at) == b'r' {
-        reads(p, given, at, file)
-    } else {
-        walks(p, file)
+    match lines::byte(given, at) {
+        b'r' => reads(p, model_plans::read(file), given, at, 5),
+        b'e' => reads(p, model_plans::read_with_leftovers(file), given, at, 8),
+        _ => walks(p, file),
     }
 }
 
@@ -193,7 +210,7 @@ fn tally_after(
     let size = bytes::least(p.size, file.len());
     match lines::byte(given, at) {
         b'c' => closed(t, p, given),
-        b'r' | b'w' | b'v' => seen::counted(
+        b'r' | b'e' | b'w' | b'v' => seen::counted(
             t,
             STATED,
             p.case,

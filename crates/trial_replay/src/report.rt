@@ -24,10 +24,10 @@ fn name_of(given: &[u8], kind: u32) -> usize {
 pub fn counts_line(t: Tally, periods: u32) {
     report::say_number(b": compared ", t.compared);
     report::say_number(b", refused ", t.refused);
+    report::say_number(b", of them with 12: ", t.leftovers);
     report::say_number(b", not refused ", t.accepted);
     report::say_number(b", periods ", periods);
-    report::say_number(b", differ ", t.differ);
-    say(b"\n");
+    report::differ_line(t);
 }
 
 pub fn kind_line(given: &[u8], t: Tally, kind: u32, periods: u32) {
@@ -39,7 +39,26 @@ pub fn kind_line(given: &[u8], t: Tally, kind: u32, periods: u32) {
 pub fn last_lines(given: &[u8], t: Tally) {
     report::told_lines(
         t,
-        &[1, 2, 3, 4, 5, 6, 7, 8, 9, 10, 11, 21, 22, 23, 32, 33, 41],
+        &[
+            1,
+            2,
+            3,
+            4,
+            5,
+            6,
+            7,
+            8,
+            9,
+            10,
+            11,
+            12,
+            21,
+            22,
+            23,
+            32,
+            33,
+            41,
+        ],
     );
     if t.alldiffer != 0 {
         say(b"first difference: ");

@@ -1,5 +1,5 @@
 // Replays whose text is stated, read as text lines. The first byte tells what a line is:
-//   case NAME                             a case begins, with an empty plan file and an empty script
+//   case NAME                             a case begins, with an empty plan file, zeros behind it, and an empty script
 //   file NNNNN NNNNN NNNNN NNNNN NNNNN NNNNN
 //                                         a record more of the plan file: its first six numbers of two bytes, where 256
 //                                         more than a domain number is a mark
@@ -25,7 +25,7 @@ use trial_kit::tally::Tally;
 use trial_scripts::lines::put_part;
 
 // The kind of all stated cases, behind the others.
-const STATED: u32 = 29;
+const STATED: u32 = 31;
 
 // The bytes so far of the plan file, the script and the text due, where the case's name stands, its number, and the periods
 // that its replays closed.
@@ -124,8 +124,9 @@ struct Both {
     stand: Stand,
 }
 
-// The counts of the case at hand are printed, and the next begins.
-fn case_line(t: Tally, p: Stand, given: &[u8], at: usize) -> Both {
+// The counts of the case at hand are printed, and the next begins with zeros.
+fn case_line(t: Tally, p: Stand, given: &[u8], at: usize, file: &mut [u8]) -> Both {
+    bytes::fill(file, 1040, 0, bytes::ZEROS);
     if p.case > 0 {
         lines::say_line(given, p.named);
         report::counts_line(t, p.periods);
@@ -147,7 +148,7 @@ fn line(
     let t = b.tally;
     let p = b.stand;
     match lines::byte(given, at) {
-        b'c' => case_line(t, p, given, at),
+        b'c' => case_line(t, p, given, at, file),
         b'r' => run_line(t, p, replayed(p, file, script, due)),
         _ => Both {
             tally: t,

@@ -6,8 +6,9 @@ use trial_kit::styles;
 use trial_kit::values;
 
 // The kinds 0 to 3 have damaged or drawn plan files, 4 to 11 and 28 scripts that are taken, 12 to 20 a line put among others in
-// one of nine ways, 21 to 25 damaged or drawn scripts, 26 short buffers, and 27 lines read by themselves.
-pub const KINDS: u32 = 29;
+// one of nine ways, 21 to 25 damaged or drawn scripts, 26 short buffers, 27 lines read by themselves, and 29 and 30 plan files
+// with leftovers.
+pub const KINDS: u32 = 31;
 
 pub const LINES: u32 = 27;
 
@@ -30,7 +31,7 @@ pub fn runs(kind: u32) -> u32 {
     match kind {
         0 => 1041,
         1 => 2720,
-        2 => 1500,
+        2 | 30 => 1500,
         6 => 4,
         7 => 30,
         4..=11 => 200,
@@ -43,6 +44,7 @@ pub fn runs(kind: u32) -> u32 {
         26 => 4200,
         27 => 12000,
         28 => 300,
+        29 => 1600,
         _ => 2000,
     }
 }
@@ -60,7 +62,7 @@ fn run_of(kind: u32, case: u32) -> u32 {
 fn style_of(kind: u32, run: u32) -> u32 {
     match kind {
         0 | 5 | 11 => styles::SMALL,
-        2 | 3 | 7 => styles::NONE,
+        2 | 3 | 7 | 30 => styles::NONE,
         4 => styles::ONE,
         28 => styles::MARKED,
         6 => styles::MOST,
@@ -97,7 +99,7 @@ pub fn of(kind: u32, case: u32) -> Case {
 pub fn first_lines(c: Case) -> u32 {
     let kind = c.kind;
     match kind {
-        0..=3 => 6,
+        0..=3 | 29 | 30 => 6,
         6 => 6500,
         7 => 1500,
         4..=11 => 70,

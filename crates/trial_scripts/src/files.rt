@@ -3,6 +3,7 @@ use super::cases;
 use super::cases::Case;
 use trial_kit::bytes;
 use trial_kit::draw;
+use trial_kit::rest;
 
 // Each byte of the file in turn, put to a small value or to any.
 fn spoil_byte(file: &mut [u8], size: usize, c: Case) {
@@ -36,8 +37,29 @@ fn filled(file: &mut [u8], c: Case, style: u32) -> usize {
     16 + 16 * draw::upto(c.seed, 73, 8) as usize
 }
 
-// Puts the file and answers its bytes: of each length in turn (0), with a byte damaged (1), filled (2 and 3), too short in
-// the fourth run of short buffers, and else as it is.
+// The same, with zeros off the chain.
+fn cleared(file: &mut [u8], c: Case, style: u32) -> usize {
+    let size = filled(file, c, style);
+    rest::clear(file);
+    size
+}
+
+// Records behind the plan, all zero but for one byte; in every fourth run of sixteen cases this is zero too.
+fn longer(file: &mut [u8], size: usize, c: Case) -> usize {
+    let written = (size / 16 % 64) as u32;
+    let records = 1 + draw::upto(c.seed, 74, 63 - written);
+    let record = written + draw::upto(c.seed, 75, records - 1);
+    let value = if c.case / 16 % 4 == 3 {
+        0
+    } else {
+        draw::low(1 + draw::upto(c.seed, 76, 254))
+    };
+    bytes::put(file, bytes::place(record, c.case % 16), value);
+    ((written + records) * 16) as usize
+}
+
+// Puts the file and answers its bytes: of each length in turn (0), with a byte damaged (1), filled (2, 3 and 30), too short in
+// the fourth run of short buffers, with records behind (29), and else as it is.
 pub fn put(file: &mut [u8], c: Case) -> usize {
     let size = cases::put_plan(file, c);
     let kind = c.kind;
@@ -47,9 +69,11 @@ pub fn put(file: &mut [u8], c: Case) -> usize {
             spoil_byte(file, size, c);
             size
         }
-        2 => filled(file, c, bytes::SMALL),
-        3 => filled(file, c, bytes::ANY),
+        2 => cleared(file, c, bytes::SMALL),
+        3 => cleared(file, c, bytes::ANY),
         26 => if c.run == 3 { 15 } else { size },
+        29 => longer(file, size, c),
+        30 => filled(file, c, bytes::SMALL),
         _ => size,
     }
 }

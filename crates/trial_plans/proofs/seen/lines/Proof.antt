@@ -1,4 +1,4 @@
--- `trial_plans::seen::lines` prints twenty-five lines and ends.
+-- `trial_plans::seen::lines` prints thirty-one lines and ends.
 -- Assumes nothing.
 use Prim.Native.Nat.{_≤_, _-_}
 use borrow.Author.Needs.{needs}
@@ -6,10 +6,10 @@ use Rattle.trial_plans.proofs.seen.lines.Statement.{statement}
 use Rattle.trial_plans.proofs.seen.lines.Tie as tie
 
 abbrev Inv-loop : tie.InvT-loop
-Inv-loop seen from₀ name₀ from name = name ≤ 25
+Inv-loop seen from₀ name₀ from name = name ≤ 31
 
 abbrev μ-loop : tie.MeasureT-loop
-μ-loop seen from₀ name₀ from name = 25 - name
+μ-loop seen from₀ name₀ from name = 31 - name
 
 pub lines-spec : {M : Type 1} → statement M
 lines-spec =
