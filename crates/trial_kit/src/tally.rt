@@ -6,7 +6,8 @@ pub struct Verdict {
     pub same: bool,
 }
 
-// The counts of the kind at hand, of which leftovers are those refused with 12, those of all kinds, how often each refusal was told, and the first difference.
+// The counts of the kind at hand, where leftovers are those refused with 12, those of all kinds, how often each refusal was
+// told, and the first difference.
 pub struct Tally {
     pub compared: u32,
     pub accepted: u32,

@@ -62,6 +62,7 @@ fn put_in(file: &mut [u8], record: u32, seed: u32) {
     }
 }
 
+// Any bytes off the chain, where it does not reach all records.
 fn any_rest(file: &mut [u8], seed: u32) -> Made {
     bytes::fill(file, compare::LONGEST, seed, bytes::ANY);
     let c = files::put_good(file, seed);

@@ -4,7 +4,8 @@ use trial_kit::report;
 use trial_kit::report::say;
 use trial_kit::tally::Tally;
 
-fn say_name(kind: u32) {
+// The kinds without leftovers, and those with some, by their place among them.
+fn say_clean(k: usize) {
     lines::say_nth(
         b"stated cases\n\
         files of every length\n\
@@ -35,8 +36,14 @@ fn say_name(kind: u32) {
         writeback reservations around W\n\
         plan values with writeback reservations around W\n\
         marks of 0, 1, and more\n\
-        plan values with the mark of an absent domain\n\
-        chains in any order, and any bytes off the chain\n\
+        plan values with the mark of an absent domain\n",
+        k,
+    );
+}
+
+fn say_left(k: usize) {
+    lines::say_nth(
+        b"chains in any order, and any bytes off the chain\n\
         one byte off the chain, at each place of the first record there, a middle one and the last\n\
         several leftovers of a byte each\n\
         several leftovers that are records of domains and name each other\n\
@@ -47,8 +54,16 @@ fn say_name(kind: u32) {
         random bytes, also off the chain\n\
         sparse bytes, also off the chain\n\
         records of small fields, also off the chain\n",
-        kind as usize,
+        k,
     );
+}
+
+fn say_name(kind: u32) {
+    if kind < 30 {
+        say_clean(kind as usize);
+    } else {
+        say_left((kind - 30) as usize);
+    }
 }
 
 // What was compared of a kind or of a stated case, after its name.
