@@ -24,10 +24,11 @@ use Rattle.script.specs.Replay.{replayText}
 use Rattle.share.specs.Call.{Call}
 use Rattle.share.specs.Run.{Made, made, run}
 
--- An input: a plan file that is read; one that is read by both rules; a plan file whose sums are told; a plan value that is written to a lent buffer; a plan file whose
--- plan is opened, and calls from there on; the same, to see the states that they return; a call on a state that is given; a plan handed
--- in on such a state; a script line that is read, with a lent buffer; a plan file and a script of the replay; a call on a state that is
--- given, to see the state that it returns; an estimate at the close of a period with c access passes; or one of which the need is asked.
+-- An input: a plan file that is read; one that is read by both rules; one whose sums are told; a plan value that is written to a lent
+-- buffer; a plan file whose plan is opened, and calls from there on; the same, to see the states that they return; a call on a state
+-- that is given; a plan handed in on such a state; a script line that is read, with a lent buffer; a plan file and a script of the
+-- replay; a call on a state that is given, to see the state that it returns; an estimate at the close of a period with c access passes;
+-- or one of which the need is asked.
 pub data Input : Type 0 where
   file : (bytes : List ℕ) → Input
   both : (bytes : List ℕ) → Input
@@ -53,9 +54,9 @@ pub record Shown : Type 0 where
   pub counts : Option Counts
   pub steps : ℕ
 
--- An outcome: what reading answers; what it answers and what the earlier rule does; the sums told; what writing answers, and the buffer; 0 or the number of a refusal of opening, and
--- what is shown of each call, or its refusal and the whole state that it returns; what handing in answers; what a line means, and the
--- buffer; all that is printed; an estimate; or a need.
+-- An outcome: what reading answers; what it answers and what the earlier rule does; the sums told; what writing answers, and the
+-- buffer; 0 or the number of a refusal of opening, and what is shown of each call, or its refusal and the whole state that it returns;
+-- what handing in answers; what a line means, and the buffer; all that is printed; an estimate; or a need.
 pub data Outcome : Type 0 where
   reading : Reading → Outcome
   readings : (now earlier : Reading) → Outcome
