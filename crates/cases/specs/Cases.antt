@@ -196,7 +196,7 @@ secondPass Q1 Q3 =
       marked = replicate 16 false;
     }
 
-abbrev planB : Plan
+abbrev pub planB : Plan
 planB = secondPass 1 1
 
 abbrev pub awaiting : Plan → Waiting
@@ -237,7 +237,7 @@ abbrev answering : ℕ → ℕ → State → Handing
 answering n place s = record { refused = n; place = place; state = s }
 
 -- a slot in which 0, 1 and 3 make these offers
-abbrev offer3 : ℕ → ℕ → ℕ → Call
+abbrev pub offer3 : ℕ → ℕ → ℕ → Call
 offer3 a b d = slot (a ∷ b ∷ 0 ∷ d ∷ replicate 13 0) nines
 
 -- such a slot under plan B: the verdicts of 0, 1 and 3, loose, the counts told and the steps

@@ -4,8 +4,7 @@
 -- Assumes nothing.
 use Prim.Native.Nat.{ℕ}
 use mathlib.Core.Path.{_≡_}
-use mathlib.Core.Logic.{_⊎_}
-use mathlib.Core.List.{List, [], _∷_}
+use mathlib.Core.List.{List}
 use Rattle.table.specs.Sums.{nth}
 use Rattle.plan.specs.Reading.{readPlan}
 use Rattle.plan.specs.declared.value.Plan.{Plan}
@@ -14,14 +13,9 @@ use Rattle.regulator.specs.Calls.{openPlan}
 use Rattle.share.specs.Call.{Call}
 use Rattle.share.specs.Ledger.{Period, blank, moments}
 use Rattle.share.specs.Run.{run}
-use Rattle.share.specs.Share.{KeepsAsking, feeds}
+use Rattle.share.specs.Share.{Some, KeepsAsking, feeds}
 use Rattle.cases.specs.Cases.{planA, planD, script, handingIn, askingBoth}
 use Rattle.cases.specs.Forecasts.{planE, forecasting}
-
--- some element of a list has a property
-abbrev pub Some : {A : Type 0} → (A → Type 0) → List A → Type 0
-Some P [] = ⊥
-Some P (x ∷ xs) = P x ⊎ Some P xs
 
 -- A period that is completed, in which the domain at index j keeps asking: of its reservation it yields some and passes the rest on its
 -- claim, and of its writeback reservation it passes all.

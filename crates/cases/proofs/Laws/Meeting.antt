@@ -13,8 +13,8 @@ use Rattle.table.proofs.Tables.{and-both, each-test}
 use Rattle.plan.specs.declared.value.Plan.{Plan}
 use Rattle.share.specs.Call.{Call}
 use Rattle.share.specs.Ledger.{Slot, Period}
-use Rattle.share.specs.Share.{Asks, claimsLeft, KeepsAsking}
-use Rattle.cases.specs.Premise.{Some, Met, periodsOf}
+use Rattle.share.specs.Share.{Some, Asks, claimsLeft, KeepsAsking}
+use Rattle.cases.specs.Premise.{Met, periodsOf}
 
 -- one of two tests holds
 either : (a b : Bool) → (a || b) ≡ true → (a ≡ true) ⊎ (b ≡ true)

@@ -62,17 +62,17 @@ module _ (test : ℕ → Bool) where
       go (inr r) = omega arith
 
 -- the number that is asked k steps after n
-away : ℕ → ℕ → ℕ
+unfoldable pub away : ℕ → ℕ → ℕ
 away n zero = n
 away n (suc k) = away (after n) k
 
-away-is : (k n : ℕ) → n ≤ 16 → away n k ≡ (n + k) % 17
+pub away-is : (k n : ℕ) → n ≤ 16 → away n k ≡ (n + k) % 17
 unfolding away
 away-is zero n h = omega arith
 away-is (suc k) n h = away-is k (after n) (after-most n h) ∙ omega (arith, after-is n h)
 
 -- every number is asked
-reached : (n m : ℕ) → n ≤ 16 → m ≤ 16 → (k : ℕ) × (k < 17) × (away n k ≡ m)
+pub reached : (n m : ℕ) → n ≤ 16 → m ≤ 16 → (k : ℕ) × (k < 17) × (away n k ≡ m)
 reached n m hn hm = ((m + 17 - n) % 17, omega arith, away-is ((m + 17 - n) % 17) n hn ∙ omega arith)
 
 module _ (test : ℕ → Bool) where

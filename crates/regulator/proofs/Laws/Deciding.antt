@@ -124,6 +124,14 @@ module _ (s : State) (steps : ℕ) where
       go (yes q) = (ap (λ (a : Answer). a .refused) (ended-complete q), ap (λ (a : Answer). a .steps) (ended-complete q))
       go (no q) = (ap (λ (a : Answer). a .refused) (ended-open q), ap (λ (a : Answer). a .steps) (ended-open q))
 
+  -- and keeps the turn, also where the period ends
+  pub ended-turn : ended s steps .state .turn ≡ s .turn
+  ended-turn = go (ℕ-discrete (s .decided) (s .plan .period))
+    where
+      go : Dec (s .decided ≡ s .plan .period) → ended s steps .state .turn ≡ s .turn
+      go (yes q) = ap (λ (a : Answer). a .state .turn) (ended-complete q)
+      go (no q) = ap (λ (a : Answer). a .state .turn) (ended-open q)
+
 -- a slot call that is refused, and one that is not
 module _ (s : State) (o : List ℕ) where
   pub slot-refused : (room : ℕ) → slotRefusal s o room ≢ 0 → slotOf s o room ≡ withoutCounts (slotRefusal s o room) s 0

@@ -8,6 +8,7 @@ use Prim.Native.Nat.{ℕ, _+_, _-_, _≤_, _<_}
 use native.Mathlib.Decide.{decLt, ℕ-discrete}
 use native.Mathlib.Omega.{arith}
 use lib.Dec.{eqb, ltb}
+use lib.ListN.{length, length-set, List·getD-eq-default}
 use lib.Seq.{getD-set-same, getD-set-other}
 use borrow.Author.Tests.{eqb-true, eqb-false, eq-eqb, ne-eqb, ltb-true, le-ltb}
 use Rattle.table.specs.Sums.{nth}
@@ -90,6 +91,20 @@ module _ (s : State) (o : List ℕ) where
       go : (b : Bool) → cond b (bestRuling (nth o 0) (blocked s o)) (rulingAt s o (n - 1)) ≢ 1
       go true = ruling-not-one _ _ _ _ _ _
       go false = at-not-one (n - 1)
+
+  -- who passes makes an offer
+  at-offers : (j : ℕ) → rulingAt s o j ≡ 2 → nth o (j + 1) ≢ 0
+  unfolding rulingAt
+  at-offers j e = eqb-false _ 0 (ruling-passes _ _ _ _ _ _ e .0)
+
+  pub passing-offers : (n : ℕ) → passes s o n ≡ true → nth o n ≢ 0
+  passing-offers n e = go (ℕ-discrete n 0)
+    where
+      go : Dec (n ≡ 0) → nth o n ≢ 0
+      go (yes q) = rw q (eqb-false _ 0 (ruling-passes _ _ _ _ _ _ (sym ruling-best ∙ sym (ap (rulingOf s o) q) ∙ eqb-true _ 2 e) .0))
+      go (no q) =
+          let r : n ≡ n - 1 + 1 = omega arith in
+          subst (λ (i : ℕ). nth o i ≢ 0) (sym r) (at-offers (n - 1) (sym (ruling-domain (n - 1)) ∙ sym (ap (rulingOf s o) r) ∙ eqb-true _ 2 e))
 
   -- a granted writeback is below the cap
   abbrev pub BelowCap : ℕ → Type 0
@@ -204,6 +219,11 @@ module _ (s : State) (o : List ℕ) where
         go (yes e) = omega (arith, steps-fit .none e)
         go (no e) = omega (arith, steps-fit .some e)
 
+    -- where a number passes, one is granted
+    pub some-granted : (n : ℕ) → n ≤ 16 → passes s o n ≡ true → granted s o ≢ 17
+    unfolding granted
+    some-granted n q e z = false≢true (sym (none-passes (passes s o) (s .turn) h z n q) ∙ e)
+
     pub granted-to : Granted (granted s o)
     unfolding granted
     granted-to = go (ask-passes (passes s o) (s .turn) 17 h)
@@ -230,6 +250,24 @@ module _ (s : State) (o : List ℕ) where
   pub verdict-other : (n : ℕ) → n < 17 → n ≢ granted s o → nth (verdicts s o) n ≡ rulingOf s o n
   unfolding verdicts
   verdict-other n h q = getD-set-other (rulings s o) (granted s o) n 1 0 q ∙ values-at (rulingOf s o) 0 17 n h
+
+  -- past 16 there is none, as if it were 0
+  pub verdict-number : (n : ℕ) → nth (verdicts s o) n ≢ 0 → n ≤ 16
+  unfolding verdicts
+  verdict-number n h = go (decLt n 17)
+    where
+      go : Dec (n < 17) → n ≤ 16
+      go (yes q) = omega arith
+      go (no q) =
+          let l : length (verdicts s o) ≤ n = omega (arith, length-set (rulings s o) (granted s o) 1, values-length (rulingOf s o) 17) in
+          absurd (h (List·getD-eq-default (verdicts s o) 0 l))
+
+  -- 2 is told of a number that passes and is not granted
+  pub two-told : (n : ℕ) → nth (verdicts s o) n ≡ 2 → (n ≢ granted s o) × (passes s o n ≡ true)
+  two-told n e =
+      let h = verdict-number n (λ z. omega arith) in
+      let d : n ≢ granted s o = λ q. absurd (omega (arith, sym (ap (nth (verdicts s o)) q) ∙ e, verdict-granted (omega (arith, q)))) in
+      (d, eq-eqb _ 2 (sym (verdict-other n (omega arith) d) ∙ e))
 
   verdict-one : (n : ℕ) → n < 17 → n ≢ granted s o → eqb (nth (verdicts s o) n) 1 ≡ false
   verdict-one n h q = ne-eqb _ 1 (λ e. never-one n (sym (verdict-other n h q) ∙ e))

@@ -151,11 +151,11 @@ pub data Step (s : State) (m : Past) (c : Made) : Type 0 where
       → Ready (nextPeriod t) nothing
       → Step s m c
 
-fed-refused : (m : Made) → m .refused ≢ 0 → fed m ≡ refusedCall (m .call)
+pub fed-refused : (m : Made) → m .refused ≢ 0 → fed m ≡ refusedCall (m .call)
 unfolding fed
 fed-refused m h = miss _ _ _ (ne-eqb (m .refused) 0 h)
 
-fed-taken : (m : Made) → m .refused ≡ 0 → fed m ≡ taken (m .call) (m .shown) (m .steps)
+pub fed-taken : (m : Made) → m .refused ≡ 0 → fed m ≡ taken (m .call) (m .shown) (m .steps)
 unfolding fed
 fed-taken m h = hit _ _ _ (eq-eqb (m .refused) 0 h)
 
