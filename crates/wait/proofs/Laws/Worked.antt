@@ -1,4 +1,4 @@
--- The runs that take as long as the bound allows, and the one under two plans, by computation.
+-- The runs that take as long as the bound allows, and those that it leaves out, by computation.
 -- Assumes nothing.
 use mathlib.Core.Path.{refl}
 use mathlib.Core.Logic.{inl, inr}
@@ -15,10 +15,10 @@ use Rattle.regulator.specs.Refusals.{offersRefusal, slotRefusal, noDomain, yiel
 use Rattle.regulator.specs.Calls.{openPlan, oneSlot, slotOf, verdictsIn, yieldOf, handOf}
 use Rattle.share.specs.Run.{made, run, taken, fed}
 use Rattle.wait.specs.Wait.{decisionIn, decisions}
-use Rattle.wait.specs.Longest.{LongestWaits, UnderTwoPlans}
+use Rattle.wait.specs.Longest.{LongestWaits, LeftOut}
 
 -- one line of names serves both
-computed : LongestWaits × UnderTwoPlans
+computed : LongestWaits × LeftOut
 unfolding sum raised lowered valuesBelow everyBelow someBelow lowestFrom withAll domainsTo outside above outOfRange overCap reserved planRefusal needOf numbersAddUp domainAddsUp waitingAddsUp estimateAddsUp addsUp atCap waits waiting loose blocked ruling rulingAt rulingOf after ask granted passedBy stepsOf verdicts domainGrant grant ended openPlan offersRefusal slotRefusal oneSlot slotOf verdictsIn noDomain yieldRefusal yieldOf handRefusal handOf made run taken fed decisionIn decisions
 computed = (
   record {
@@ -28,11 +28,11 @@ computed = (
     waiting = record { long = refl; passes = (inr refl, (inr refl, (inl refl, tt))); under = (refl, (refl, (refl, tt))); verdicts = refl; last = refl };
     equal = record { long = refl; passes = (inr refl, (inr refl, (inl refl, tt))); under = (refl, (refl, (refl, tt))); verdicts = refl; last = refl };
   },
-  record { planned = refl; plans = refl; verdicts = refl; last = refl },
+  record { planned = refl; plans = refl; renewed = refl; passed = refl; blocked = refl },
 )
 
 pub longest-waits : LongestWaits
 longest-waits = computed .0
 
-pub under-two-plans : UnderTwoPlans
-under-two-plans = computed .1
+pub left-out : LeftOut
+left-out = computed .1
