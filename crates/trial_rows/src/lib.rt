@@ -1,6 +1,6 @@
 // The rows of a list of calls, counted from the verdicts told. A number's row is in how many decided slots in a row, under one
 // plan, it passed the rules and was not granted: verdict 2. With n domains planned no row is above n (Point 8 of document 02).
-// Rows lie in lent words, and behind them what was counted in all lists.
+// Rows lie in 308 lent words: those of one list, and behind them what was counted in all lists.
 ghost use Prim.Native.Nat.{_<_, _≤_};
 
 // The words of one list: each number's row, and its row whatever plans took force in it; the slots decided; of each event, how
@@ -20,8 +20,8 @@ const BEFORE: usize = 41;
 
 const PLAN: usize = 42;
 
-// The events that leave a row as it is: a period's end, a yield taken, a call refused, a plan taken that still waits, and a
-// plan that took force, which leaves it only where it is equal to the plan before.
+// The events that leave a row as it is: a period's end, a yield taken, a call refused, a plan taken that still waits; and a plan
+// that took force, where it is equal to the plan before.
 const CLOSED: usize = 0;
 
 pub const YIELDED: usize = 1;
@@ -32,9 +32,9 @@ pub const WAITING: usize = 3;
 
 const FORCE: usize = 4;
 
-// The counts of all lists: how often a number was put off, the longest row; of the rows that came to be n, those of best effort,
-// of a domain, and by the events in them; the rows that came above n, and that would have whatever plans took force; behind
-// them, by n, the rows that came to be n.
+// The counts of all lists: how often a number was put off; the longest row; of the rows that came to be n those of best effort,
+// of a domain, and with each event between their slots; the rows that came above n, and those that would have, whatever plans
+// took force; and behind them, by n, the rows that came to be n.
 const COUNTS: usize = 280;
 
 const PUTOFF: usize = 280;
