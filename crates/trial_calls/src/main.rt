@@ -1,5 +1,5 @@
 // Compares the library's opening, slots, yields and handing in with the model's on stated cases and on lists of calls that are
-// fixed by seeds, holds each list against the ledger, and prints what was compared.
+// fixed by seeds, holds each list against the ledger and the bound of its rows, and prints what was compared.
 use run::Case;
 use run::Run;
 use seen::Seen;
@@ -9,11 +9,12 @@ use trial_states::styles;
 
 mod both;
 mod report;
+mod rows;
 mod run;
 mod script;
 mod seen;
 
-const KINDS: u32 = 32;
+const KINDS: u32 = 33;
 
 fn start() -> Run {
     Run {
@@ -31,7 +32,7 @@ fn with_next_kind(r: Run) -> Run {
     after
 }
 
-fn try_kind(before: Run, kind: u32) -> Run {
+fn try_kind(before: Run, rows: &mut [u64], kind: u32) -> Run {
     let style = styles::of_kind(kind);
     let mut r = with_next_kind(before);
     let mut case: u32 = 0;
@@ -41,7 +42,7 @@ fn try_kind(before: Run, kind: u32) -> Run {
             case,
             seed: draw::draw(std::num::wrapping_add_u32(kind, 1000), case),
         };
-        let next = run::tried(r, of, style);
+        let next = run::tried(r, rows, of, style);
         r = next;
         case += 1;
     }
@@ -52,15 +53,16 @@ fn try_kind(before: Run, kind: u32) -> Run {
 
 fn main() {
     let mut text = io::large_buffer();
+    let mut rows = [0u64; 308];
     let bytes = io::read_full(0, &mut text);
-    let mut r = script::cases(start(), &text[..bytes]);
+    let mut r = script::cases(start(), &mut rows, &text[..bytes]);
     let mut kind: u32 = 0;
     while kind < KINDS {
-        let next = try_kind(r, kind);
+        let next = try_kind(r, &mut rows, kind);
         r = next;
         kind += 1;
     }
     let t = r.tally;
     let s = r.seen;
-    report::last_lines(t, s);
+    report::last_lines(t, s, &rows);
 }

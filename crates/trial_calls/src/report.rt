@@ -1,4 +1,5 @@
 // The names of the kinds, and the lines after them.
+use super::rows;
 use super::script;
 use super::seen;
 use super::seen::Seen;
@@ -40,7 +41,8 @@ fn say_kind(kind: u32) {
         states in their last slot with estimates of every sort\n\
         states with an estimate of a domain that is not marked, or is\n\
         runs of many periods with every domain marked\n\
-        runs with marked domains and plans handed in\n",
+        runs with marked domains and plans handed in\n\
+        runs in which nearly all numbers pass in every slot\n",
         kind as usize,
     );
 }
@@ -58,9 +60,10 @@ pub fn kind_line(t: Tally, kind: u32) {
     report::counts_line(t);
 }
 
-// What was seen, the refusals, the total, and where something differed its first kind and case.
-pub fn last_lines(t: Tally, s: Seen) {
+// What was seen, the rows, the refusals, the total, and where something differed its first kind and case.
+pub fn last_lines(t: Tally, s: Seen, rows: &[u64]) {
     seen::lines(s);
+    rows::lines(rows);
     report::told_lines(t, &[2, 9, 10, 11, 21, 22, 23, 30, 31, 32, 33, 34]);
     if t.alldiffer != 0 {
         say(b"first difference: ");

@@ -2,6 +2,7 @@
 use super::both;
 use super::both::Outcome;
 use super::both::Told;
+use super::rows;
 use super::seen;
 use super::seen::Seen;
 use model_calls::Entry;
@@ -83,7 +84,8 @@ fn with_marks(r: Run, words: &[u64], page: &[u64], c: Call, t: Told) -> Run {
     after
 }
 
-// The run after a call on a state of these words, which are others now, and its entry in the ledger's page.
+// The run after a call on a state of these words, which are others now, its entry in the ledger's page, and whether its rows are
+// within their bound.
 fn with_entry(
     r: Run,
     words: &[u64],
@@ -94,6 +96,7 @@ fn with_entry(
     c: Call,
     o: Outcome,
     e: Entry,
+    within: bool,
 ) -> Run {
     let t = o.told;
     let v = o.verdict;
@@ -101,7 +104,7 @@ fn with_entry(
     let verdict = Verdict {
         number: v.number,
         same: tally::both(
-            v.same,
+            tally::both(v.same, within),
             tally::both(e.faults == 0, both::agree(page, now, t.number)),
         ),
     };
@@ -116,12 +119,13 @@ fn with_entry(
     )
 }
 
-// The run after a call, entered into the ledger.
+// The run after a call, entered into the ledger and the rows.
 pub fn called(
     r: Run,
     words: &[u64],
     now: &[u64],
     page: &mut [u64],
+    rows: &mut [u64],
     counts: &[u64],
     of: Case,
     c: Call,
@@ -129,7 +133,8 @@ pub fn called(
 ) -> Run {
     let t = o.told;
     let e = both::entered(page, words, counts, c, t);
-    with_entry(r, words, now, page, counts, of, c, o, e)
+    let within = rows::entered(rows, words, c.what, t);
+    with_entry(r, words, now, page, counts, of, c, o, e, within)
 }
 
 // The run with a changed state more seen, whether it still adds up, where its sum of steps stands, what lies beside its flag,
@@ -206,34 +211,54 @@ fn with_changed(r: Run, now: &[u64], of: Case, style: Style, seed: u32) -> Run {
     with_other(two, &mut words, of, style, draw::draw(seed, 9), calls::HAND)
 }
 
-// A call of a run, entered into the ledger.
-fn with_call(r: Run, now: &mut [u64], page: &mut [u64], of: Case, c: Call) -> Run {
+// A call of a run, entered into the ledger and the rows.
+fn with_call(
+    r: Run,
+    now: &mut [u64],
+    page: &mut [u64],
+    rows: &mut [u64],
+    of: Case,
+    c: Call,
+) -> Run {
     let mut before = [0u64; 714];
     let mut counts = [0u64; 238];
     forms::copy(&mut before, now);
     let o = both::answered(now, &mut counts, c);
-    called(r, &before, now, page, &counts, of, c, o)
+    called(r, &before, now, page, rows, &counts, of, c, o)
 }
 
-fn step(r: Run, now: &mut [u64], page: &mut [u64], of: Case, style: Style, i: u32) -> Run {
-    let seed = draw::draw(of.seed, std::num::wrapping_add_u32(i, 100000));
+// The drawn call of a step on these words, behind which the plan at hand is put where it is to be handed in.
+fn next_call(now: &mut [u64], of: Case, style: Style, seed: u32) -> Call {
     let what = draws::kind_of(style, seed);
     handing::prepare(now, style, seed, what);
-    let c = draws::call(now, style, of.seed, seed, what);
-    let after = with_call(r, now, page, of, c);
+    draws::call(now, style, of.seed, seed, what)
+}
+
+fn step(
+    r: Run,
+    now: &mut [u64],
+    page: &mut [u64],
+    rows: &mut [u64],
+    of: Case,
+    style: Style,
+    i: u32,
+) -> Run {
+    let seed = draw::draw(of.seed, std::num::wrapping_add_u32(i, 100000));
+    let c = next_call(now, of, style, seed);
+    let after = with_call(r, now, page, rows, of, c);
     with_changed(after, now, of, style, seed)
 }
 
 // The opening of the case's plan, and then the steps of its style.
-pub fn tried(before: Run, of: Case, style: Style) -> Run {
+pub fn tried(before: Run, rows: &mut [u64], of: Case, style: Style) -> Run {
     let mut now = [0u64; 714];
     let mut page = [0u64; 476];
     let p = styles::plan_of(style.plans, of.case, of.seed);
     forms::put_plan(&mut now, forms::GIVEN, p);
-    let mut r = with_call(before, &mut now, &mut page, of, calls::opening());
+    let mut r = with_call(before, &mut now, &mut page, rows, of, calls::opening());
     let mut i: u32 = 0;
     while i < style.steps {
-        let next = step(r, &mut now, &mut page, of, style, i);
+        let next = step(r, &mut now, &mut page, rows, of, style, i);
         r = next;
         i += 1;
     }

@@ -23,9 +23,13 @@
 //                                   hexadecimal digits, behind which zeros are left out (1 is 3ff0 or 3ff, 0 is 0)
 //   judged NN E                     the same of the ledger's page
 //   known NN E                      that estimate is put so, in the ledger too
+//   unbroken NN KK                  the row of a number: in how many decided slots in a row, under one plan, it passed and was
+//                                   not granted; `alter`, `lay` and `known` end all rows
+// Numbers left out at a line's end are 0, and domain 00 is all sixteen.
 ghost use Prim.Native.Nat.{_≤_};
 use super::both;
 use super::both::Outcome;
+use super::rows;
 use super::run;
 use super::run::Case;
 use super::run::Run;
@@ -134,6 +138,7 @@ fn called(
     words: &[u64],
     now: &[u64],
     page: &mut [u64],
+    rows: &mut [u64],
     counts: &[u64],
     c: Call,
     o: Outcome,
@@ -142,7 +147,7 @@ fn called(
     let r = s.run;
     let of = s.of;
     let t = o.told;
-    let next = run::called(r, words, now, page, counts, of, c, o);
+    let next = run::called(r, words, now, page, rows, counts, of, c, o);
     after.run = next;
     after.complete = t.complete;
     call_stated(after, text, at, o)
@@ -155,12 +160,13 @@ fn call_line(
     now: &mut [u64],
     counts: &mut [u64],
     page: &mut [u64],
+    rows: &mut [u64],
 ) -> Script {
     let mut words = [0u64; 714];
     let c = call_of(text, at);
     forms::copy(&mut words, now);
     let o = both::answered(now, counts, c);
-    called(s, text, at, &words, now, page, counts, c, o)
+    called(s, text, at, &words, now, page, rows, counts, c, o)
 }
 
 // The refusal of a call, and the rest of its outcome.
@@ -266,14 +272,30 @@ fn holds(
 }
 
 // A domain of the plan at hand, planned or not.
-fn put_domain(text: &[u8], at: usize, now: &mut [u64], planned: u64) {
-    let row = forms::GIVEN + 14 * lines::small(text, at, 7, 2) as usize;
+fn put_domain(text: &[u8], at: usize, now: &mut [u64], number: usize, planned: u64)
+    requires { ⌜ number ≤ 65535 ⌝ }
+{
+    let row = forms::GIVEN + 14 * number;
     forms::put(now, row, planned);
     forms::put(now, row + 1, lines::number(text, at, 10, 4));
     forms::put(now, row + 2, lines::number(text, at, 15, 4));
     forms::put(now, row + 3, lines::number(text, at, 20, 4));
     forms::put(now, row + 4, lines::number(text, at, 25, 4));
     forms::put(now, row + 11, 0);
+}
+
+// The domain of a line that begins with `domain`, or all sixteen.
+fn put_domains(text: &[u8], at: usize, now: &mut [u64]) {
+    let named = lines::small(text, at, 7, 2) as usize;
+    if named > 0 {
+        put_domain(text, at, now, named, 1);
+        return;
+    }
+    let mut number: usize = 1;
+    while number <= 16 {
+        put_domain(text, at, now, number, 1);
+        number += 1;
+    }
 }
 
 fn put_mark(text: &[u8], at: usize, now: &mut [u64]) {
@@ -318,8 +340,8 @@ fn put_line(text: &[u8], at: usize, now: &mut [u64], page: &mut [u64]) {
             forms::GIVEN,
             values::with_period(values::nothing(), period),
         ),
-        b'd' => put_domain(text, at, now, 1),
-        b'b' => put_domain(text, at, now, 0),
+        b'd' => put_domains(text, at, now),
+        b'b' => put_domain(text, at, now, lines::small(text, at, 7, 2) as usize, 0),
         b'm' => put_mark(text, at, now),
         b'k' => know(text, at, now, page),
         b'l' => {
@@ -360,20 +382,27 @@ fn line(
     now: &mut [u64],
     counts: &mut [u64],
     page: &mut [u64],
+    rows: &mut [u64],
 ) -> Script {
     match lines::byte(text, at) {
         b'c' => case_line(s, text, at),
-        b'o' | b'g' | b's' | b'y' => call_line(s, text, at, now, counts, page),
-        b'p' | b'd' | b'b' | b'm' | b'l' | b'a' | b'k' => {
+        b'o' | b'g' | b's' | b'y' => call_line(s, text, at, now, counts, page, rows),
+        b'p' | b'd' | b'b' | b'm' => {
             put_line(text, at, now, page);
             s
         }
+        b'l' | b'a' | b'k' => {
+            put_line(text, at, now, page);
+            trial_rows::begin(rows);
+            s
+        }
+        b'u' => stated(s, rows::is_row(rows, text, at)),
         _ => stated(s, holds(text, at, now, page, counts, s.complete)),
     }
 }
 
 // All cases of the text. Its last line begins a case without a name, so that the one before is printed.
-pub fn cases(before: Run, text: &[u8]) -> Run {
+pub fn cases(before: Run, rows: &mut [u64], text: &[u8]) -> Run {
     let mut now = [0u64; 714];
     let mut counts = [0u64; 238];
     let mut page = [0u64; 476];
@@ -389,7 +418,7 @@ pub fn cases(before: Run, text: &[u8]) -> Run {
     };
     let mut at: usize = 0;
     while at < text.len() {
-        let next = line(s, text, at, &mut now, &mut counts, &mut page);
+        let next = line(s, text, at, &mut now, &mut counts, &mut page, rows);
         s = next;
         at = lines::after_line(text, at);
     }

@@ -20,9 +20,17 @@ fn wide(x: u8) -> u64
     x as u64
 }
 
-// The number of so many digits, at an offset of the line that begins at a place.
+// The number of so many digits, at an offset of the line that begins at a place; 0 behind the line's end.
 pub fn number(text: &[u8], at: usize, offset: usize, digits: usize) -> u64 {
     let from = std::num::wrapping_add_usize(at, offset);
+    if from < line_end(text, at) {
+        digits_from(text, from, digits)
+    } else {
+        0
+    }
+}
+
+fn digits_from(text: &[u8], from: usize, digits: usize) -> u64 {
     let mut value: u64 = 0;
     let mut k: usize = 0;
     while k < digits {

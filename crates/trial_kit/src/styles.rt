@@ -5,8 +5,8 @@ use super::values;
 use plan::Plan;
 
 // The styles: accepted and refused values, P 1, P 2 to 40, P 4,096, no domains, sixteen domains, all Q zero, sums
-// of both reservations equal to P, P 1 to 8, P 2 to 20 with no writeback reservations, as older plans have, and P 2 to 16 with
-// every domain marked.
+// of both reservations equal to P, P 1 to 8, P 2 to 20 with no writeback reservations, as older plans have, P 2 to 16 with
+// every domain marked, and one to sixteen domains that may write back in every slot.
 pub const ACCEPTED: u32 = 0;
 
 pub const REFUSED: u32 = 1;
@@ -30,6 +30,8 @@ pub const LEAST: u32 = 9;
 pub const OLDER: u32 = 10;
 
 pub const MARKED: u32 = 11;
+
+pub const CROWDED: u32 = 12;
 
 // Plans with few large or with many small reservations.
 fn mixed(seed: u32, period: u32) -> Plan {
@@ -80,6 +82,32 @@ fn lowered(p: Plan, most: u32) -> Plan {
     }
 }
 
+// One to sixteen domains by the case, from a drawn number on. Their W is P, and they reserve at most half of it, so that in
+// most slots nearly all who offer pass.
+fn crowded(seed: u32, case: u32) -> Plan {
+    let period = 12 + draw::upto(seed, 4, 40);
+    let domains = case % 16 + 1;
+    let most = period / (domains * 2);
+    let first = draw::upto(seed, 6, 15);
+    let mut p = values::with_period(values::nothing(), period);
+    let mut n: u32 = 0;
+    while n < domains {
+        let next = with_writer(p, first + n, period, most, seed);
+        p = next;
+        n += 1;
+    }
+    p
+}
+
+// The plan with a domain of this W, which reserves at most so much.
+fn with_writer(p: Plan, n: u32, w: u32, most: u32, seed: u32) -> Plan {
+    let drawn = draw::draw(seed, std::num::wrapping_add_u32(n, 100));
+    let v = draw::upto(drawn, 1, most);
+    let q = draw::upto(drawn, 2, if v <= most { most - v } else { 0 });
+    let numbered = values::with_numbers(p, n, q, draw::upto(drawn, 3, w), w, v);
+    values::with_mark(numbered, n, draw::upto(drawn, 4, 3) == 0)
+}
+
 // A plan of the style.
 pub fn plan_of(style: u32, case: u32, seed: u32) -> Plan {
     match style {
@@ -97,6 +125,7 @@ pub fn plan_of(style: u32, case: u32, seed: u32) -> Plan {
         8 => values::drawn_in(seed, values::WHOLE, 2 + draw::upto(seed, 4, 38)),
         9 => mixed(seed, 1 + draw::upto(seed, 4, 7)),
         10 => older(mixed(seed, 2 + draw::upto(seed, 4, 18))),
-        _ => marked(mixed(seed, 2 + draw::upto(seed, 4, 14))),
+        11 => marked(mixed(seed, 2 + draw::upto(seed, 4, 14))),
+        _ => crowded(seed, case),
     }
 }

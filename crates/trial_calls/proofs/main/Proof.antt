@@ -2,14 +2,16 @@
 -- Assumes nothing.
 use Prim.Native.Nat.{_≤_, _-_}
 use borrow.Author.Needs.{needs}
+use mathlib.Core.Path.{_≡_}
+use lib.ListN.{length}
 use Rattle.trial_calls.proofs.main.Statement.{statement}
 use Rattle.trial_calls.proofs.main.Tie as tie
 
 abbrev Inv-loop : tie.InvT-loop
-Inv-loop bytes r₀ kind₀ r kind = kind ≤ 32
+Inv-loop rows₀ bytes r₀ kind₀ rows r kind = (kind ≤ 33) × (length rows ≡ 308)
 
 abbrev μ-loop : tie.MeasureT-loop
-μ-loop bytes r₀ kind₀ r kind = 32 - kind
+μ-loop rows₀ bytes r₀ kind₀ rows r kind = 33 - kind
 
 pub main-spec : {M : Type 1} → statement M
 main-spec =
@@ -23,9 +25,12 @@ main-spec =
     (λ c κs. search needs)
     (λ c. search needs)
     (λ c. search needs)
-    (λ c κs. search needs)
     (λ c. search needs)
     (λ c κs. search needs)
+    (λ c. search needs)
+    (λ c. search needs)
+    (λ c κs. search needs)
+    (λ c. search needs)
     (λ c. search needs)
     (λ c. search needs)
     (λ c. search needs)

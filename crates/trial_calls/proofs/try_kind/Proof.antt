@@ -2,14 +2,16 @@
 -- Assumes nothing.
 use Prim.Native.Nat.{_≤_, _-_}
 use borrow.Author.Needs.{needs}
+use mathlib.Core.Path.{_≡_}
+use lib.ListN.{length}
 use Rattle.trial_calls.proofs.try_kind.Statement.{statement}
 use Rattle.trial_calls.proofs.try_kind.Tie as tie
 
 abbrev Inv-loop : tie.InvT-loop
-Inv-loop kind style r₀ case₀ r case = case ≤ style .runs
+Inv-loop rows₀ kind style r₀ case₀ rows r case = (case ≤ style .runs) × (length rows ≡ length rows₀)
 
 abbrev μ-loop : tie.MeasureT-loop
-μ-loop kind style r₀ case₀ r case = style .runs - case
+μ-loop rows₀ kind style r₀ case₀ rows r case = style .runs - case
 
 pub try-kind-spec : {M : Type 1} → statement M
 try-kind-spec =
@@ -27,4 +29,5 @@ try-kind-spec =
     (λ c. search needs)
     (λ c. search needs)
     (λ c κs. search needs)
+    (λ c. search needs)
     (λ c. search needs))

@@ -8,10 +8,10 @@ use Rattle.trial_calls.proofs.run.tried.Statement.{statement}
 use Rattle.trial_calls.proofs.run.tried.Tie as tie
 
 abbrev Inv-loop : tie.InvT-loop
-Inv-loop of style now₀ page₀ r₀ i₀ now page r i = (i ≤ style .steps) × ((length now ≡ 714) × (length page ≡ 476))
+Inv-loop rows₀ of style now₀ page₀ r₀ i₀ rows now page r i = (i ≤ style .steps) × ((length now ≡ 714) × (length page ≡ 476) × (length rows ≡ length rows₀))
 
 abbrev μ-loop : tie.MeasureT-loop
-μ-loop of style now₀ page₀ r₀ i₀ now page r i = style .steps - i
+μ-loop rows₀ of style now₀ page₀ r₀ i₀ rows now page r i = style .steps - i
 
 pub tried-spec : {M : Type 1} → statement M
 tried-spec =
@@ -30,6 +30,7 @@ tried-spec =
     (λ c. search needs)
     (λ c. search needs)
     (λ c κs. search needs)
+    (λ c. search needs)
     (λ c. search needs)
     (λ c. search needs)
     (λ c. search needs)

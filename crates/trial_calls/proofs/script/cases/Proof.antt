@@ -8,10 +8,10 @@ use Rattle.trial_calls.proofs.script.cases.Statement.{statement}
 use Rattle.trial_calls.proofs.script.cases.Tie as tie
 
 abbrev Inv-loop : tie.InvT-loop
-Inv-loop text now₀ counts₀ page₀ s₀ at₀ now counts page s at = ((length now ≡ 714) × (length counts ≡ 238)) × (length page ≡ 476)
+Inv-loop rows₀ text now₀ counts₀ page₀ s₀ at₀ rows now counts page s at = ((length now ≡ 714) × (length counts ≡ 238)) × ((length page ≡ 476) × (length rows ≡ length rows₀))
 
 abbrev μ-loop : tie.MeasureT-loop
-μ-loop text now₀ counts₀ page₀ s₀ at₀ now counts page s at = length text - at
+μ-loop rows₀ text now₀ counts₀ page₀ s₀ at₀ rows now counts page s at = length text - at
 
 pub cases-spec : {M : Type 1} → statement M
 cases-spec =
@@ -25,6 +25,7 @@ cases-spec =
     (λ c. search needs)
     (λ c κs. search needs)
     (λ c κs. search needs)
+    (λ c. search needs)
     (λ c. search needs)
     (λ c. search needs)
     (λ c. search needs))

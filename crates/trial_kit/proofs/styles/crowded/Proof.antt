@@ -1,0 +1,34 @@
+-- `trial_kit::styles::crowded` draws so many domains and ends.
+-- Assumes nothing.
+use Prim.Native.Nat.{_≤_, _-_}
+use borrow.Author.Needs.{needs}
+use Rattle.trial_kit.proofs.styles.crowded.Statement.{statement}
+use Rattle.trial_kit.proofs.styles.crowded.Tie as tie
+
+abbrev Inv-loop : tie.InvT-loop
+Inv-loop seed case period domains most first p₀ n₀ p n = n ≤ domains
+
+abbrev μ-loop : tie.MeasureT-loop
+μ-loop seed case period domains most first p₀ n₀ p n = domains - n
+
+pub crowded-spec : {M : Type 1} → statement M
+crowded-spec =
+    tie.close
+    (tie.spec
+    Inv-loop
+    μ-loop
+    (λ c κs. search needs)
+    (λ c. search needs)
+    (λ c. search needs)
+    (λ c. search needs)
+    (λ c. search needs)
+    (λ c κs. search needs)
+    (λ c κs. search needs)
+    (λ c κs. search needs)
+    (λ c. search needs)
+    (λ c. search needs)
+    (λ c κs. search needs)
+    (λ c. search needs)
+    (λ c. search needs)
+    (λ c. search needs)
+    (λ c. search needs))
