@@ -1,6 +1,6 @@
 -- The decided slots of a list of calls: until the next one is decided, the turn stands behind the number that was granted.
 -- Assumes nothing.
-use mathlib.Core.Path.{_≡_, refl, sym, ap, ap₂, subst, _∙_}
+use mathlib.Core.Path.{_≡_, refl, sym, ap, subst, _∙_}
 use mathlib.Core.Logic.{_≢_}
 use mathlib.Core.List.{List, [], _∷_, _++_}
 use Prim.Native.Nat.{ℕ, zero, suc}
@@ -17,7 +17,7 @@ use Rattle.regulator.specs.declared.calls.Yielding.{Yielding}
 use Rattle.regulator.specs.declared.calls.Handing.{Handing}
 use Rattle.regulator.proofs.Laws.Deciding.{ended-turn, slot-decided, slot-number, shown-decided, yield-number, yield-given, hand-number, hand-given}
 use Rattle.share.specs.Call.{Call, slot, yield, handIn}
-use Rattle.share.specs.Ledger.{Fed, decidedSlot}
+use Rattle.share.specs.Ledger.{Fed}
 use Rattle.share.specs.Run.{made, run, taken, fed}
 use Rattle.share.proofs.Laws.Entering.{fed-refused, fed-taken, refused-changes-nothing}
 use Rattle.wait.specs.Wait.{Decision, decisionIn, decisions}
@@ -49,7 +49,7 @@ abbrev pub slotsOf : State → List Call → List Decision
 slotsOf s cs = decisions s (run s cs)
 
 module _ (s : State) where
-  -- a call and those after it, by what the call is fed as
+  -- what is known of the slots behind a call is known from the call on; and so it is by what the ledger is fed of the call
   abbrev Goes : Call → Type 0
   Goes c = (cs : List Call) → Slots (made s c .state .turn) (slotsOf (made s c .state) cs) → Slots (s .turn) (slotsOf s (c ∷ cs))
 
