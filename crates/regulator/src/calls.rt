@@ -75,6 +75,18 @@ fn tell_verdicts(s: State, offers: &[u8], verdicts: &mut [u8]) -> Picked
     picked
 }
 
+// The slot of a call that is not refused, from the number that is granted in it, or 17, and its steps.
+pub fn grant_slot(s: State, offers: &[u8], number: usize, steps: u32) -> Answer
+    requires { ⌜ slotRefusal s (now offers) 17 ≡ 0 ⌝ }
+    requires { ⌜ number ≡ grantedIn s (now offers) ⌝ }
+    requires { ⌜ steps ≡ stepsOf s (now offers) ⌝ }
+    ensures { λ r. ⌜ r ≡ oneSlot s (now (offers .entry)) ⌝ }
+{
+    let t = grant::grant_number(s, offers, number);
+    let next = grant::go_on(t, number, steps);
+    close::end(next, steps)
+}
+
 // One slot, of a call that is not refused.
 fn decide(s: State, offers: &[u8], verdicts: &mut [u8]) -> Answer
     requires { ⌜ slotRefusal s (now offers) (length (now verdicts)) ≡ 0 ⌝ }
@@ -82,9 +94,7 @@ fn decide(s: State, offers: &[u8], verdicts: &mut [u8]) -> Answer
     ensures shown { λ r. ⌜ now (verdicts .exit) ≡ verdictsOf s (now (offers .entry)) ⌝ }
 {
     let picked = tell_verdicts(s, offers, verdicts);
-    let t = grant::grant_number(s, offers, picked.number);
-    let next = grant::go_on(t, picked.number, picked.steps);
-    close::end(next, picked.steps)
+    grant_slot(s, offers, picked.number, picked.steps)
 }
 
 // A slot call on a state that adds up, as every state of a run does.

@@ -50,7 +50,7 @@ fn counts_of(s: State) -> Counts
 }
 
 // An answer without counts.
-pub(crate) fn without_counts(n: u8, s: State, steps: u32) -> Answer
+pub fn without_counts(n: u8, s: State, steps: u32) -> Answer
     ensures { λ r. ⌜ r ≡ withoutCounts n s steps ⌝ }
 {
     let none = Counts {

@@ -8,6 +8,9 @@
 //
 // run_slot, run_yield and run_hand_in are the same calls for a caller whose state is known to add up, as every state of a run
 // from an opened plan does: they require it, and do not check it again.
+//
+// adds_up, check_slot, without_counts, rule, mark and grant_slot are the parts of a slot call that a second engine shares: all but
+// who passes and who is granted.
 mod calls;
 mod close;
 mod forecast;
@@ -21,6 +24,7 @@ mod verdict;
 pub use calls::Handing;
 pub use calls::Opening;
 pub use calls::Yielding;
+pub use calls::grant_slot;
 pub use calls::hand_in;
 pub use calls::open;
 pub use calls::run_hand_in;
@@ -30,7 +34,12 @@ pub use calls::slot;
 pub use calls::yield_claim;
 pub use close::Answer;
 pub use close::Counts;
+pub use close::without_counts;
 pub use forecast::Estimate;
 pub use forecast::Tracked;
+pub use refusals::check_slot;
 pub use state::State;
 pub use state::Waiting;
+pub use state::adds_up;
+pub use turn::mark;
+pub use verdict::rule;

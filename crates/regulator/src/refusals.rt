@@ -67,7 +67,7 @@ fn check_offers(p: Plan, offers: &[u8], room: usize) -> u8
 }
 
 // The refusal of a slot call on a state that adds up, or 0.
-pub(crate) fn check_slot(s: State, offers: &[u8], room: usize) -> u8
+pub fn check_slot(s: State, offers: &[u8], room: usize) -> u8
     requires { ⌜ addsUp s ≡ true ⌝ }
     ensures { λ r. ⌜ r ≡ slotRefusal s (now (offers .entry)) room ⌝ }
 {

@@ -180,7 +180,7 @@ fn all_eight(a: bool, b: bool, c: bool, d: bool, e: bool, f: bool, g: bool, h: b
 }
 
 // Does a state add up?
-pub(crate) fn adds_up(s: State) -> bool
+pub fn adds_up(s: State) -> bool
     ensures { λ b. ⌜ b ≡ addsUp s ⌝ }
 {
     let p = s.plan;

@@ -48,7 +48,7 @@ pub(crate) fn pick(rulings: &[u8], turn: usize) -> Picked
 }
 
 // The granted number's verdict; 17 has none.
-pub(crate) fn mark(verdicts: &mut [u8], granted: usize)
+pub fn mark(verdicts: &mut [u8], granted: usize)
     requires { ⌜ length (now verdicts) ≡ 17 ⌝ }
     ensures { λ _. ⌜ now (verdicts .exit) ≡ set (now (verdicts .entry)) granted 1 ⌝ }
 {

@@ -127,7 +127,7 @@ fn rule_domain(
 }
 
 // The rulings of all numbers, to a lent buffer.
-pub(crate) fn rule(s: State, offers: &[u8], blocked: bool, verdicts: &mut [u8])
+pub fn rule(s: State, offers: &[u8], blocked: bool, verdicts: &mut [u8])
     requires { ⌜ blocked ≡ blockedIn s (now offers) ⌝ }
     requires { ⌜ length (now offers) ≡ 17 ⌝ }
     requires { ⌜ length (now verdicts) ≡ 17 ⌝ }
