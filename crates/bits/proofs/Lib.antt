@@ -1,0 +1,2 @@
+-- What is proved of bits beside the functions.
+pub mod Laws

@@ -1,0 +1,2 @@
+-- What is proved of lanes and digits beside the functions.
+pub mod Laws
