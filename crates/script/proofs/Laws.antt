@@ -6,3 +6,4 @@ pub mod Reading
 pub mod Splitting
 pub mod Carrying
 pub mod Feeding
+pub mod Plain

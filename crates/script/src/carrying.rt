@@ -23,8 +23,7 @@ fn slot_step(s: State, offers: &[u8; 17], out: &mut [u8], at: usize) -> Step
     requires { ⌜ addsUp s ≡ true ⌝ }
     ensures { λ r. ⌜ Stepped (carriedOut s (slotLine (now (offers .entry)))) (now (out .entry)) at r (now (out .exit)) ⌝ }
 {
-    let mut verdicts = [0u8; 17];
-    let a = regulator::run_slot(s, offers, &mut verdicts);
+    let a = engine::run_slot(s, offers);
     let state = a.state;
     if a.complete {
         let p = s.plan;

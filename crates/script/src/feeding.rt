@@ -1,7 +1,8 @@
 // The replay: lines carried out one after the other, on a script in memory or on one that comes part by part.
 ghost use mathlib.Core.Path.{_≡_};
 ghost use mathlib.Core.Bool.{false};
-ghost use Prim.Native.Nat.{_≤_, _<_, min};
+ghost use mathlib.Core.List.{List};
+ghost use Prim.Native.Nat.{ℕ, _≤_, _<_, min};
 ghost use lib.ListN.{length, drop};
 ghost use Rattle.script.specs.Replay.{replayText};
 ghost use Rattle.script.specs.Output.{output, put, holding};
@@ -13,6 +14,9 @@ use regulator::State;
 
 // More bytes than a line of either form has.
 const TOO_LONG: usize = 20;
+
+// The bytes of a slot line, its byte 10 included.
+const SLOT_LINE: usize = 20;
 
 // A replay between two lines: the state, the number of the next line, 0 or the number that refused the plan or a line, the bytes of the
 // part of the script in hand that are done, and the bytes of text in the lent buffer.
@@ -75,6 +79,27 @@ fn next_line(r: Run, part: &[u8], end: usize, out: &mut [u8], room: usize) -> Ru
     }
 }
 
+// Takes the plain slot lines of a part, from what is done of it on, as long as there are any. Nothing is printed for them, so they need
+// no room.
+fn plain_lines(r: Run, part: &[u8]) -> Run
+    requires { ⌜ Sound r ⌝ }
+    requires { ⌜ r .refused ≡ 0 ⌝ }
+    requires { ⌜ r .used ≤ length (now part) ⌝ }
+    ensures { λ q. ⌜ ((room : ℕ) (b : List ℕ) → Fed (now (part .entry)) room r b q b) ⌝ }
+    ensures { λ q. ⌜ (q .refused ≡ 0) × (r .used ≤ q .used) ⌝ }
+{
+    let s = r.state;
+    let c = slots::carry(s, r.used, part);
+    let state = c.state;
+    Run {
+        state,
+        line: r.line + ((c.at - r.used) / SLOT_LINE) as u64,
+        refused: 0,
+        used: c.at,
+        at: r.at,
+    }
+}
+
 // Are fewer than `room` bytes of a buffer free?
 fn lacks_room(at: usize, len: usize, room: usize) -> bool
     ensures { λ b. ⌜ b ≡ lacksRoom at len room ⌝ }
@@ -102,6 +127,7 @@ pub fn feed(run: Run, part: &[u8], out: &mut [u8], room: usize) -> Run
         if r.refused != 0 {
             return r;
         }
+        r = plain_lines(r, part);
         if lacks_room(r.at, out.len(), room) {
             return r;
         }

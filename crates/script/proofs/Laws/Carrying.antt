@@ -115,7 +115,7 @@ refused-silent s (badLine n) e = refl
 
 -- A slot call's answer, as the step of its line: with the period that it closed, or with none.
 module _ (s : State) (o : List ℕ) (a : Answer) (e : a ≡ slotOf s o 17) (before : List ℕ) (at : ℕ) where
-  slot-prints : cond (a .complete) (periodText (s .plan) (a .state .closed) (a .counts)) [] ≡ carriedOut s (slotLine o) .prints
+  pub slot-prints : cond (a .complete) (periodText (s .plan) (a .state .closed) (a .counts)) [] ≡ carriedOut s (slotLine o) .prints
   unfolding carriedOut
   slot-prints = ap (λ (b : Answer). cond (b .complete) (periodText (s .plan) (b .state .closed) (b .counts)) []) e
 

@@ -27,7 +27,7 @@ use Rattle.script.specs.Line.{meaningOf}
 use Rattle.script.specs.Text.{header, openText, planRefusedText, lineRefusedText}
 use Rattle.script.specs.Replay.{Script, split, Done, carriedOut, linesText, replayText}
 use Rattle.script.specs.Output.{Output, output, put}
-use Rattle.script.specs.Feeding.{restText, linesBefore, Sound, unended, lacksRoom, Fed, Started}
+use Rattle.script.specs.Feeding.{restText, linesBefore, Sound, unended, lacksRoom, lineRoom, Fed, Started}
 use Rattle.script.specs.Inner.{Stepped, Stop, atTen, tooLong, atEnd, LineEnd, openEnd}
 use Rattle.script.specs.declared.feeding.Run.{Run}
 use Rattle.script.specs.declared.carrying.Step.{Step}
@@ -167,13 +167,12 @@ module _ (r : Run) (part : List ℕ) (end : ℕ) (ends : LineEnd part (r .used) 
           ∙ text-long (r .state) (r .line) line (drop end part ++ later) (ends .clear) h
           ∙ ap (lineRefusedText (r .line)) (sym (long-refused h))
 
-  -- A line that was taken, and one that was refused; and each takes the run on.
-  module _ (sound : Sound r) (shape : Shaped (r .state)) (few : r .state .closed < 4294967296) (room : ℕ)
-      (before : List ℕ) (free : lacksRoom (r .at) (length before) room ≡ false)
+  -- A line that was taken, and lost nothing of what it prints, takes the run on.
+  module _ (sound : Sound r) (shape : Shaped (r .state)) (room : ℕ) (before : List ℕ)
       (x : Step) (after : List ℕ) (step : Stepped done before (r .at) x after) where
-    pub fed-taken : x .refused ≡ 0
+    pub fed-on : x .refused ≡ 0 → (lineRoom ≤ room → r .at ≤ length before → x .at ≡ r .at + length (done .prints))
         → Fed part room r before (record { state = x .state; line = r .line + 1; refused = 0; used = end + 1; at = x .at }) after
-    fed-taken e =
+    fed-on e whole =
         let z : done .refused ≡ 0 = sym (step .refused) ∙ e in
         let t = line-taken (r .state) shape (sound .adds live) line z in
         let to : Run = record { state = x .state; line = r .line + 1; refused = 0; used = end + 1; at = x .at } in
@@ -184,10 +183,7 @@ module _ (r : Run) (part : List ℕ) (end : ℕ) (ends : LineEnd part (r .used) 
               text-taken z later
               ∙ ap (λ (s : State). done .prints ++ linesText s (r .line + 1) (split (drop (end + 1) part ++ later) .lines) (split (drop (end + 1) part ++ later) .last)) (sym (step .state))
               ∙ ap (λ (l : List ℕ). done .prints ++ l) (sym (rest-on to (drop (end + 1) part ++ later) refl));
-          whole = λ k h.
-              let count = shown-count after before (done .prints) (x .at) (r .at) (step .shown) h in
-              let most = prints-short (r .state) shape (sound .adds live) few (meaningOf line) in
-              omega (arith, count, ltb-false (length before - r .at) room free, most);
+          whole = whole;
           sound =
               record {
                 adds = λ y. ap addsUp (step .state) ∙ t .adds;
@@ -195,6 +191,19 @@ module _ (r : Run) (part : List ℕ) (end : ℕ) (ends : LineEnd part (r .used) 
               };
           within = omega (arith, taken-ten z .0);
         }
+
+  -- Where room is free: a line that was taken, and one that was refused.
+  module _ (sound : Sound r) (shape : Shaped (r .state)) (few : r .state .closed < 4294967296) (room : ℕ)
+      (before : List ℕ) (free : lacksRoom (r .at) (length before) room ≡ false)
+      (x : Step) (after : List ℕ) (step : Stepped done before (r .at) x after) where
+    pub fed-taken : x .refused ≡ 0
+        → Fed part room r before (record { state = x .state; line = r .line + 1; refused = 0; used = end + 1; at = x .at }) after
+    fed-taken e =
+        fed-on sound shape room before x after step e
+        (λ k h.
+        let count = shown-count after before (done .prints) (x .at) (r .at) (step .shown) h in
+        let most = prints-short (r .state) shape (sound .adds live) few (meaningOf line) in
+        omega (arith, count, ltb-false (length before - r .at) room free, most))
 
     pub fed-refused : (last : List ℕ) (n : ℕ) → x .refused ≢ 0 → x .refused < 256 → r .line < 18446744073709551616
         → output last n ≡ put (output after (x .at)) (lineRefusedText (r .line) (x .refused))

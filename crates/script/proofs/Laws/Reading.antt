@@ -200,11 +200,11 @@ line-long l h = go (begins 115 l) (begins 121 l)
 
 -- Offers that are copied digit by digit.
 module _ (l : List ℕ) where
-  offers-length : length (offersOf l) ≡ length l
+  pub offers-length : length (offersOf l) ≡ length l
   unfolding offersOf
   offers-length = length-map l (λ (b : ℕ). b - 48)
 
-  offers-at : (i : ℕ) → nth (offersOf l) i ≡ nth l i - 48
+  pub offers-at : (i : ℕ) → nth (offersOf l) i ≡ nth l i - 48
   unfolding offersOf
   offers-at i = List·getD-map (λ (b : ℕ). b - 48) l i 0
 

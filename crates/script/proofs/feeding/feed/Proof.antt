@@ -4,6 +4,7 @@ use mathlib.Core.Path.{_≡_, sym, _∙_}
 use mathlib.Core.Bool.{cond, false≢true}
 use denote.Ref.{now}
 use Prim.Native.Nat.{_+_, _-_, _≤_}
+use native.Mathlib.Omega.{arith}
 use lib.Dec.{eqb}
 use lib.ListN.{length}
 use Rattle.script.specs.Line.{before}
@@ -39,6 +40,18 @@ returns c =
     let l = c .before .before in
     record { fed = l .loop .inv .1; lineless = λ e. absurd (c .if1 .taken e) }
 
+plain-lines-requires : tie.Need-plain-lines-requires Inv-loop μ-loop
+plain-lines-requires c κs = let fed = c .before .before .loop .inv .1 in (fed .sound, (c .if1 .left, fed .within))
+
+-- the lines so far, and the plain ones behind them
+plain : (c : tie.After-plain-lines Inv-loop μ-loop) → (let l = c .before .before .before in let a = l .before .before .before .args in
+    Fed (now (a .part)) (a .room) (a .run) (now (a .out)) (c .plain-lines .result) (l .loop .out))
+plain c =
+    let l = c .before .before .before in
+    let a = l .before .before .before .args in
+    fed-then (now (a .part)) (a .room) (a .run) (now (a .out)) (l .loop .r) (l .loop .out) (c .plain-lines .result) (l .loop .out)
+    (l .loop .inv .1) (c .plain-lines .ensures .0 (a .room) (l .loop .out))
+
 lacks-room-requires : tie.Need-lacks-room-requires Inv-loop μ-loop
 lacks-room-requires c κs = search needs
 
@@ -47,11 +60,13 @@ same-length-2 c = search needs
 
 returns-2 : tie.Need-returns-2 Inv-loop μ-loop
 returns-2 c =
-    let l = c .before .before .before .before in
-    record { fed = l .loop .inv .1; lineless = λ e f. absurd (false≢true (sym f ∙ sym (c .before .lacks-room .ensures) ∙ c .if2 .taken)) }
+    record {
+      fed = plain (c .before .before);
+      lineless = λ e f. absurd (false≢true (sym f ∙ sym (c .before .lacks-room .ensures) ∙ c .if2 .taken));
+    }
 
 line-end-requires : tie.Need-line-end-requires Inv-loop μ-loop
-line-end-requires c κs = c .before .before .before .before .loop .inv .1 .within
+line-end-requires c κs = plain (c .before .before) .within
 
 is-open-end-requires : tie.Need-is-open-end-requires Inv-loop μ-loop
 is-open-end-requires c κs = c .line-end .ensures .low
@@ -62,37 +77,40 @@ same-length-3 c = search needs
 returns-3 : tie.Need-returns-3 Inv-loop μ-loop
 returns-3 c =
     let e = c .before .before in
-    let l = e .before .before .before .before .before in
-    let part = now (l .before .before .before .args .part) in
+    let p = e .before .before .before in
+    let part = now (p .before .before .before .before .before .before .args .part) in
     record {
-      fed = l .loop .inv .1;
-      lineless = λ z f. fed-lineless part (l .loop .r .used) (e .line-end .result) (e .line-end .ensures) (sym (c .before .is-open-end .ensures) ∙ c .if3 .taken);
+      fed = plain p;
+      lineless = λ z f. fed-lineless part (p .plain-lines .result .used) (e .line-end .result) (e .line-end .ensures) (sym (c .before .is-open-end .ensures) ∙ c .if3 .taken);
     }
 
 next-line-requires : tie.Need-next-line-requires Inv-loop μ-loop
 next-line-requires c κs =
     let e = c .before .before .before in
-    let l = e .before .before .before .before .before in
+    let p = e .before .before .before in
     let shut = sym (c .before .before .is-open-end .ensures) ∙ c .before .if3 .left in
     let free = sym (e .before .before .lacks-room .ensures) ∙ e .before .if2 .left in
-    (l .loop .inv .1 .sound, (e .before .before .before .if1 .left, (e .line-end .ensures, (shut, free))))
+    (plain p .sound, (p .plain-lines .ensures .1 .0, (e .line-end .ensures, (shut, free))))
 
 loop-less : tie.Need-loop-less Inv-loop μ-loop
 loop-less c =
     let n = c .before .before in
-    let l = n .before .before .before .before .before .before .before .before .before in
+    let p = n .before .before .before .before .before .before .before in
+    let l = p .before .before .before in
     let part = now (l .before .before .before .args .part) in
     fed-less (l .loop .r .refused) (n .next-line .result .refused) (l .loop .r .used) (n .next-line .result .used) (length part)
-    (n .before .before .before .before .before .before .before .if1 .left) (l .loop .inv .1 .within) (n .next-line .ensures .1) (n .next-line .ensures .0 .within)
+    (p .before .if1 .left) (l .loop .inv .1 .within) (λ e. omega (arith, n .next-line .ensures .1 e, p .plain-lines .ensures .1 .1))
+    (n .next-line .ensures .0 .within)
 
 loop-again : tie.Need-loop-again Inv-loop μ-loop
 loop-again c =
     let n = c .before .before in
-    let l = n .before .before .before .before .before .before .before .before .before in
+    let p = n .before .before .before .before .before .before .before in
+    let l = p .before .before .before in
     let a = l .before .before .before .args in (
       search needs,
-      fed-then (now (a .part)) (a .room) (a .run) (now (a .out)) (l .loop .r) (l .loop .out) (n .next-line .result) (n .next-line .last .1 .1 .1 .0)
-          (l .loop .inv .1) (n .next-line .ensures .0),
+      fed-then (now (a .part)) (a .room) (a .run) (now (a .out)) (p .plain-lines .result) (l .loop .out) (n .next-line .result) (n .next-line .last .1 .1 .1 .0)
+          (plain p) (n .next-line .ensures .0),
     )
 
 pub feed-spec : {M : Type 1} → statement M
@@ -104,6 +122,7 @@ feed-spec =
     loop-holds
     same-length
     returns
+    plain-lines-requires
     lacks-room-requires
     same-length-2
     returns-2

@@ -1,13 +1,13 @@
 -- `script::feeding::next_line` meets its contract.
 -- Assumes nothing.
-use mathlib.Core.Path.{_≡_, sym, _∙_}
+use mathlib.Core.Path.{_≡_}
 use mathlib.Core.Bool.{false}
 use denote.Ref.{now}
 use Prim.Native.Nat.{_+_, _<_}
 use native.Mathlib.Omega.{arith}
-use lib.ListN.{length, length-map}
-use Rattle.plan.specs.Value.{Sized}
+use lib.ListN.{length}
 use Rattle.regulator.specs.State.{Shaped}
+use Rattle.regulator.proofs.Laws.Owning.{state-shaped}
 use Rattle.script.specs.Line.{before}
 use Rattle.script.specs.Feeding.{Sound, lacksRoom, Fed}
 use Rattle.script.specs.Inner.{LineEnd, openEnd}
@@ -35,50 +35,8 @@ free c = search needs
 few : (c : tie.Start) → c .args .r .state .closed < 4294967296
 few c = search needs
 
--- the facts of the waiting plan, and of the lists about it, lie deeper in the run's than `search` goes by itself
-waiting : (c : tie.Start) → Sized (c .args .r .state .waiting .plan)
-waiting c =
-    let deep = c .good .0 .1 .1 .0 .1 .1 .1 .1 .1 .1 .1 .1 .1 .1 .1 .1 .1 .1 .1 .0 in
-    let last = deep .1 .1 .1 .0 .1 .1 .1 .1 .1 .1 in
-    record {
-      planned = search needs;
-      reservation = search needs;
-      reclaimcap = search needs;
-      writebackcap = search needs;
-      writebackreservation = search needs;
-      marked = search needs;
-    }
-
-last-lists : (c : tie.Start)
-    → (let s = c .args .r .state in (length (s .yielded) ≡ 16) × (length (s .writebacks) ≡ 16) × (length (s .writebackclaim) ≡ 16))
-last-lists c =
-    let deep = c .good .0 .1 .1 .0 .1 .1 .1 .1 .1 .1 .1 .1 .1 .1 .1 .1 in
-    (search needs, search needs, search needs)
-
--- an array of structs is owned by what its elements hold
-estimates : (c : tie.Start) → length (c .args .r .state .tracked) ≡ 16
-estimates c = sym (length-map (c .args .r .state .tracked) _) ∙ c .good .0 .1 .1 .0 .1 .1 .1 .1 .1 .1 .1 .1 .1 .1 .1 .1 .1 .1 .1 .1 .1 .0 .1 .0 .1
-
 shape : (c : tie.Start) → Shaped (c .args .r .state)
-shape c =
-    record {
-      plan = record {
-        planned = search needs;
-        reservation = search needs;
-        reclaimcap = search needs;
-        writebackcap = search needs;
-        writebackreservation = search needs;
-        marked = search needs;
-      };
-      claim = search needs;
-      reserved = search needs;
-      reclaimed = search needs;
-      yielded = last-lists c .0;
-      writebacks = last-lists c .1;
-      waiting = waiting c;
-      writebackclaim = last-lists c .2;
-      tracked = estimates c;
-    }
+shape c = state-shaped (c .args .r .state) _ (c .good .0 .1 .1 .0)
 
 sub-carry-out : tie.Need-sub-carry-out
 sub-carry-out c = ends (c .before .before .before) .low
