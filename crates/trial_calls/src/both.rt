@@ -1,5 +1,6 @@
 // One call of the library and of the model on the same state, compared; and its entry into the ledger. A state, with the plan
-// at hand behind it, and a slot's counts lie in lent words; what the library answers takes their place.
+// at hand behind it, and a slot's counts lie in lent words; what the library answers takes their place. A slot is put to both
+// engines, each on that state: what either answers has to be what the model does.
 use model_calls::Decision;
 use model_calls::Entry;
 use model_calls::cells;
@@ -23,10 +24,19 @@ pub struct Told {
     pub steps: u32,
 }
 
-// What the library told, beside the model's refusal and whether all is the same.
+// The second engine's part in a call: none, a slot that it decided, or one that it refused.
+pub const NOTASKED: u8 = 0;
+
+pub const DECIDED: u8 = 1;
+
+pub const REFUSED: u8 = 2;
+
+// What the library told, by the first engine, beside the model's refusal and whether all is the same; and the second engine's
+// part.
 pub struct Outcome {
     pub told: Told,
     pub verdict: Verdict,
+    pub second: u8,
 }
 
 // Of a call that tells neither verdicts nor steps nor counts.
@@ -44,23 +54,33 @@ pub fn same_bytes(a: [u8; 18], b: [u8; 18]) -> bool {
     check::same(&a, &b)
 }
 
-// The outcome of a call, where its state and counts are the same or not.
-fn compared(told: Told, due: Told, same: bool) -> Outcome {
-    let mine = told.verdicts;
-    let yours = due.verdicts;
-    let refusal = both(told.number == due.number, told.place == due.place);
-    let period = both(told.complete == due.complete, told.steps == due.steps);
-    let all = both(both(refusal, period), same_bytes(mine, yours));
-    Outcome {
-        told,
-        verdict: Verdict {
-            number: due.number,
-            same: both(same, all),
-        },
-    }
+fn same_told(a: Told, b: Told) -> bool {
+    let mine = a.verdicts;
+    let yours = b.verdicts;
+    let refusal = both(a.number == b.number, a.place == b.place);
+    let period = both(a.complete == b.complete, a.steps == b.steps);
+    both(both(refusal, period), same_bytes(mine, yours))
 }
 
+// Whether an answer is the model's: what is told, every word of the state, and the counts.
+fn is_due(
+    words: &[u64],
+    counts: &[u64],
+    told: Told,
+    duewords: &[u64],
+    duecounts: &[u64],
+    due: Told,
+) -> bool {
+    let same = both(
+        forms::same_words(duewords, words),
+        forms::same_words(duecounts, counts),
+    );
+    both(same, same_told(told, due))
+}
+
+// The answer of the first engine, or of the second.
 fn library_answer(
+    second: bool,
     s: State,
     offers: &[u8],
     offered: usize,
@@ -69,14 +89,17 @@ fn library_answer(
 ) -> Answer {
     let given = least(offered, offers.len());
     let size = least(lent, verdicts.len());
+    if second {
+        return engine::slot(s, &offers[0..given], &mut verdicts[0..size]);
+    }
     regulator::slot(s, &offers[0..given], &mut verdicts[0..size])
 }
 
-fn library_slot(now: &mut [u64], counts: &mut [u64], c: Call) -> Told {
+fn library_slot(now: &mut [u64], counts: &mut [u64], c: Call, second: bool) -> Told {
     let mut verdicts = [c.filled; 18];
     let offers = c.offers;
     let s = forms::state_of(now);
-    let a = library_answer(s, &offers, c.offered, &mut verdicts, c.lent);
+    let a = library_answer(second, s, &offers, c.offered, &mut verdicts, c.lent);
     let state = a.state;
     let period = a.counts;
     forms::put_state(now, state);
@@ -116,7 +139,7 @@ fn library_call(now: &mut [u64], counts: &mut [u64], c: Call) -> Told {
     cells::clear(counts);
     let what = c.what;
     match what {
-        calls::SLOT => library_slot(now, counts, c),
+        calls::SLOT => library_slot(now, counts, c, false),
         calls::YIELD => library_yield(now, c.domain, c.k),
         calls::HAND => library_handing(now, p),
         _ => library_opening(now, p),
@@ -171,18 +194,47 @@ fn model_call(words: &mut [u64], counts: &mut [u64], c: Call, p: Plan) -> Told {
     }
 }
 
+// The second engine's part in a call, and whether what it answers on a state of these words is the model's.
+struct Second {
+    part: u8,
+    same: bool,
+}
+
+// It decides slots, and no other call is put to it.
+fn second_call(now: &[u64], c: Call, duewords: &[u64], duecounts: &[u64], due: Told) -> Second {
+    if c.what != calls::SLOT {
+        return Second {
+            part: NOTASKED,
+            same: true,
+        };
+    }
+    let mut words = [0u64; 476];
+    let mut counts = [0u64; 238];
+    forms::copy(&mut words, now);
+    let told = library_slot(&mut words, &mut counts, c, true);
+    Second {
+        part: if told.number == 0 { DECIDED } else { REFUSED },
+        same: is_due(&words, &counts, told, duewords, duecounts, due),
+    }
+}
+
 pub fn answered(now: &mut [u64], counts: &mut [u64], c: Call) -> Outcome {
     let mut words = [0u64; 476];
     let mut due = [0u64; 238];
     let p = forms::plan_of(now, forms::GIVEN);
     forms::copy(&mut words, now);
     let model = model_call(&mut words, &mut due, c, p);
-    let library = library_call(now, counts, c);
-    let same = both(
-        forms::same_words(&words, now),
-        forms::same_words(&due, counts),
-    );
-    compared(library, model, same)
+    let second = second_call(now, c, &words, &due, model);
+    let told = library_call(now, counts, c);
+    let same = is_due(now, counts, told, &words, &due, model);
+    Outcome {
+        told,
+        verdict: Verdict {
+            number: model.number,
+            same: both(same, second.same),
+        },
+        second: second.part,
+    }
 }
 
 fn entered_slot(page: &mut [u64], counts: &[u64], c: Call, t: Told) -> Entry {

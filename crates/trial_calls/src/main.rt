@@ -1,11 +1,14 @@
 // Compares the library's opening, slots, yields and handing in with the model's on stated cases and on lists of calls that are
-// fixed by seeds, holds each list against the ledger and the bound of its rows, and prints what was compared.
+// fixed by seeds, holds each list against the ledger and the bound of its rows, and prints what was compared. Every slot is put
+// to both engines.
 use run::Case;
 use run::Run;
 use seen::Seen;
 use trial_kit::draw;
 use trial_kit::tally;
+use trial_states::passing;
 use trial_states::styles;
+use trial_states::styles::Style;
 
 mod both;
 mod report;
@@ -13,13 +16,17 @@ mod rows;
 mod run;
 mod script;
 mod seen;
+mod turns;
 
-const KINDS: u32 = 33;
+const KINDS: u32 = 37;
 
 fn start() -> Run {
     Run {
         tally: tally::start(),
-        seen: Seen { counts: [0; 130] },
+        seen: Seen {
+            counts: [0; 134],
+            turns: [0; 34],
+        },
         before: 0,
     }
 }
@@ -32,6 +39,14 @@ fn with_next_kind(r: Run) -> Run {
     after
 }
 
+fn try_case(r: Run, rows: &mut [u64], of: Case, style: Style) -> Run {
+    if of.kind < passing::KIND {
+        run::tried(r, rows, of, style)
+    } else {
+        turns::tried(r, of)
+    }
+}
+
 fn try_kind(before: Run, rows: &mut [u64], kind: u32) -> Run {
     let style = styles::of_kind(kind);
     let mut r = with_next_kind(before);
@@ -42,7 +57,7 @@ fn try_kind(before: Run, rows: &mut [u64], kind: u32) -> Run {
             case,
             seed: draw::draw(std::num::wrapping_add_u32(kind, 1000), case),
         };
-        let next = run::tried(r, rows, of, style);
+        let next = try_case(r, rows, of, style);
         r = next;
         case += 1;
     }

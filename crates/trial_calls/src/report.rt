@@ -42,7 +42,11 @@ fn say_kind(kind: u32) {
         states with an estimate of a domain that is not marked, or is\n\
         runs of many periods with every domain marked\n\
         runs with marked domains and plans handed in\n\
-        runs in which nearly all numbers pass in every slot\n",
+        runs in which nearly all numbers pass in every slot\n\
+        every turn with passing sets of every size, loose above 0\n\
+        every turn with passing sets of every size, some on stock\n\
+        every turn with sets of one to sixteen that pass on claim, all others blocked\n\
+        every turn with passing sets of every size, loose at most 0 and nobody waiting on claim\n",
         kind as usize,
     );
 }

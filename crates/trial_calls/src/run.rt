@@ -38,12 +38,15 @@ pub struct Case {
     pub seed: u32,
 }
 
-// The run with one more verdict counted.
-fn counted(r: Run, of: Case, v: Verdict) -> Run {
+// The run with one more verdict counted, and the second engine's part in its call.
+pub fn counted(r: Run, of: Case, v: Verdict, second: u8) -> Run {
     let mut after = r;
     let before = r.tally;
+    let so_far = r.seen;
     let with = tally::counted(before, of.kind, of.case, v);
+    let more = seen::with_second(so_far, second);
     after.tally = with;
+    after.seen = more;
     after
 }
 
@@ -100,7 +103,6 @@ fn with_entry(
 ) -> Run {
     let t = o.told;
     let v = o.verdict;
-    let so_far = r.seen;
     let verdict = Verdict {
         number: v.number,
         same: tally::both(
@@ -108,7 +110,8 @@ fn with_entry(
             tally::both(e.faults == 0, both::agree(page, now, t.number)),
         ),
     };
-    let mut after = counted(r, of, verdict);
+    let mut after = counted(r, of, verdict, o.second);
+    let so_far = after.seen;
     let more = seen::with_call(so_far, c.what, t, e, counts, r.before != 0);
     after.seen = more;
     with_plan(
@@ -173,20 +176,20 @@ fn drawn_call(
     style: Style,
     seed: u32,
     what: u8,
-) -> Verdict {
+) -> Outcome {
     let mut counts = [0u64; 238];
     handing::prepare(words, style, seed, what);
     forms::copy(before, words);
     let c = draws::call(before, style, of.seed, seed, what);
-    let o = both::answered(words, &mut counts, c);
-    o.verdict
+    both::answered(words, &mut counts, c)
 }
 
 // The run after a drawn call on these words that no ledger is fed.
 fn with_other(r: Run, words: &mut [u64], of: Case, style: Style, seed: u32, what: u8) -> Run {
     let mut before = [0u64; 714];
-    let v = drawn_call(words, &mut before, of, style, seed, what);
-    with_plan(counted(r, of, v), &before, what, v.number)
+    let o = drawn_call(words, &mut before, of, style, seed, what);
+    let v = o.verdict;
+    with_plan(counted(r, of, v, o.second), &before, what, v.number)
 }
 
 // A slot call on a changed state, a yield on what it answers, and a plan handed in on what that answers, for the kinds that
@@ -198,8 +201,9 @@ fn with_changed(r: Run, now: &[u64], of: Case, style: Style, seed: u32) -> Run {
         return r;
     }
     changes::put_changed(&mut words, now, of.kind, seed);
-    let v = drawn_call(&mut words, &mut before, of, style, seed, calls::SLOT);
-    let one = with_change(counted(r, of, v), &before, &words, v.number);
+    let o = drawn_call(&mut words, &mut before, of, style, seed, calls::SLOT);
+    let v = o.verdict;
+    let one = with_change(counted(r, of, v, o.second), &before, &words, v.number);
     let two = with_other(
         one,
         &mut words,

@@ -6,7 +6,8 @@
 //   mark NN                         and a mark of a domain, planned or not, behind the domain's line
 //   open NN PPPP                    opening it tells this refusal and place
 //   give NN PPPP                    handing it in tells this refusal and place
-//   slot OFFERS VERDICTS NN SS      a slot call, the bytes of the buffer after it (9 before it), its refusal and its steps
+//   slot OFFERS VERDICTS NN SS      a slot call, the bytes of the buffer after it (9 before it), its refusal and its steps; it is
+//                                   put to both engines, and either has to answer as is stated
 //   yield NN KKKK NN                a yield by a domain, and its refusal
 //   told 00 IIII BBBB SSSSS         the counts told by the slot call before: idle, best effort and the sum of steps,
 //   told NN RRRR CCCC YYYY WWWW     and a domain's reserved, reclaimed, yielded and writebacks

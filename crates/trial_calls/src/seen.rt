@@ -1,18 +1,21 @@
 // What the runs came to: verdicts, slots, steps, periods and plans handed in, so that a program that does nothing is noticed.
 ghost use Prim.Native.Nat.{_≤_};
+use super::both;
 use super::both::Told;
 use model_calls::Entry;
 use model_calls::cells;
 use trial_kit::lines::say_nth;
 use trial_kit::report;
-use trial_kit::tally::both;
+use trial_kit::tally;
 use trial_states::calls;
 use trial_states::estimates;
 
 // How often verdicts 0 to 6 were told stands at 0 to 6, how often steps 0 to 17 at 80 to 97, and behind them, by their sorts,
-// the estimates of marked domains before and after closes, and the needs that they leave.
+// the estimates of marked domains before and after closes, and the needs that they leave; then what was put to the second
+// engine. Of each turn the sizes of the sets that passed, and behind them the steps, are told by bits.
 pub struct Seen {
-    pub counts: [u32; 130],
+    pub counts: [u32; 134],
+    pub turns: [u32; 34],
 }
 
 pub const IDLE: usize = 7;
@@ -70,11 +73,17 @@ const AFTER: usize = 112;
 
 const NEEDS: usize = 123;
 
-const COUNTS: usize = 130;
+// The slot calls put to the second engine, and of them those that it refused.
+const SECOND: usize = 130;
+
+// The pairs of a turn and a size, and of a turn and steps.
+const SIZES: usize = 132;
+
+const STEPPED: usize = 133;
 
 pub fn raised(seen: Seen, k: usize, by: u32) -> Seen {
     let mut after = seen;
-    let at = k % 130;
+    let at = k % 134;
     let x = after.counts[at];
     if x < 1000000000 {
         after.counts[at] = x + by % 65536;
@@ -149,6 +158,34 @@ fn with_slot(seen: Seen, t: Told, counts: &[u64]) -> Seen {
     }
 }
 
+// The second engine's part in a call.
+pub fn with_second(seen: Seen, part: u8) -> Seen {
+    if part == both::NOTASKED {
+        return seen;
+    }
+    let asked = raised(seen, SECOND, 1);
+    raised(asked, SECOND + 1, if part == both::REFUSED { 1 } else { 0 })
+}
+
+// The pair of a row and a number up to 17, which is counted where it was not seen before.
+fn with_pair(seen: Seen, row: usize, number: u32, line: usize) -> Seen {
+    let at = row % 34;
+    let bits = seen.turns[at];
+    let bit = 1u32 << number % 18;
+    if (bits & bit) != 0 {
+        return seen;
+    }
+    let mut after = raised(seen, line, 1);
+    after.turns[at] = bits | bit;
+    after
+}
+
+// A slot with this turn: how many numbers passed, and its steps.
+pub fn with_turn(seen: Seen, turn: usize, size: u32, steps: u32) -> Seen {
+    let row = turn % 17;
+    with_pair(with_pair(seen, row, size, SIZES), row + 17, steps, STEPPED)
+}
+
 // A marked domain at a close, from the words before it and after: its estimates, and its need where it has one.
 fn with_marked(seen: Seen, before: &[u64], after: &[u64], row: usize) -> Seen {
     if !estimates::is_marked(before, row) {
@@ -184,7 +221,7 @@ pub fn with_call(seen: Seen, what: u8, t: Told, e: Entry, counts: &[u64], renewe
     let asked = raised(raised(kept, ASKED, e.asked), TWOFOLD, e.twofold);
     let foreseen = raised(asked, FORESEEN, e.foreseen);
     let after = raised(foreseen, FAULTS, e.faults);
-    if both(what == calls::SLOT, t.number == 0) {
+    if tally::both(what == calls::SLOT, t.number == 0) {
         with_slot(after, t, counts)
     } else {
         after
@@ -317,7 +354,7 @@ fn say_name(k: usize) {
 
 // A name, and the counts from one to before another.
 fn say_row(seen: Seen, name: &[u8], from: usize, to: usize)
-    requires { ⌜ to ≤ 130 ⌝ }
+    requires { ⌜ to ≤ 134 ⌝ }
 {
     report::say(name);
     let mut k = from;
@@ -328,7 +365,16 @@ fn say_row(seen: Seen, name: &[u8], from: usize, to: usize)
     report::say(b"\n");
 }
 
-// The counts that stand in rows: steps, estimates and needs.
+fn say_pairs(seen: Seen) {
+    report::say_number(
+        b"turns and sizes of passing sets seen: ",
+        seen.counts[SIZES],
+    );
+    report::say_number(b" of 306\nturns and steps seen: ", seen.counts[STEPPED]);
+    report::say(b" of 306\n");
+}
+
+// The counts that stand in rows: steps, estimates and needs, and what the second engine was asked; and the pairs.
 fn say_rows(seen: Seen) {
     say_row(seen, b"slots by their steps, 0 to 17:", STEPS, BEFORE);
     say_row(
@@ -348,8 +394,15 @@ fn say_rows(seen: Seen) {
         seen,
         b"needs by estimate: 0 of Q 0, 0 and 1 of Q 1, and of a larger Q none, some, all but one, all:",
         NEEDS,
-        COUNTS,
+        SECOND,
     );
+    say_row(
+        seen,
+        b"slot calls put to the second engine, and of them refused by it:",
+        SECOND,
+        SIZES,
+    );
+    say_pairs(seen);
 }
 
 pub fn lines(seen: Seen) {

@@ -6,7 +6,8 @@ use plan::Plan;
 
 // The styles: accepted and refused values, P 1, P 2 to 40, P 4,096, no domains, sixteen domains, all Q zero, sums
 // of both reservations equal to P, P 1 to 8, P 2 to 20 with no writeback reservations, as older plans have, P 2 to 16 with
-// every domain marked, and one to sixteen domains that may write back in every slot.
+// every domain marked, one to sixteen domains that may write back in every slot, P 1 to 3 with sixteen domains, and one to
+// sixteen domains whose claims and caps are soon used up.
 pub const ACCEPTED: u32 = 0;
 
 pub const REFUSED: u32 = 1;
@@ -32,6 +33,10 @@ pub const OLDER: u32 = 10;
 pub const MARKED: u32 = 11;
 
 pub const CROWDED: u32 = 12;
+
+pub const SHORT: u32 = 13;
+
+pub const TIGHT: u32 = 14;
 
 // Plans with few large or with many small reservations.
 fn mixed(seed: u32, period: u32) -> Plan {
@@ -82,21 +87,29 @@ fn lowered(p: Plan, most: u32) -> Plan {
     }
 }
 
-// One to sixteen domains by the case, from a drawn number on. Their W is P, and they reserve at most half of it, so that in
-// most slots nearly all who offer pass.
-fn crowded(seed: u32, case: u32) -> Plan {
-    let period = 12 + draw::upto(seed, 4, 40);
+// One to sixteen domains by the case, from a drawn number on, of this W, which reserve at most so much each.
+fn writers(seed: u32, case: u32, period: u32, w: u32, most: u32) -> Plan {
     let domains = case % 16 + 1;
-    let most = period / (domains * 2);
     let first = draw::upto(seed, 6, 15);
     let mut p = values::with_period(values::nothing(), period);
     let mut n: u32 = 0;
     while n < domains {
-        let next = with_writer(p, first + n, period, most, seed);
+        let next = with_writer(p, first + n, w, most, seed);
         p = next;
         n += 1;
     }
     p
+}
+
+// Their W is P, and they reserve at most half of it, so that in most slots nearly all who offer pass.
+fn crowded(seed: u32, case: u32) -> Plan {
+    let period = 12 + draw::upto(seed, 4, 40);
+    writers(seed, case, period, period, period / ((case % 16 + 1) * 2))
+}
+
+// Their W is 4, and so is the most of R and of what they reserve; P is 64 and more.
+fn tight(seed: u32, case: u32) -> Plan {
+    writers(seed, case, 64 + draw::upto(seed, 4, 60), 4, 4)
 }
 
 // The plan with a domain of this W, which reserves at most so much.
@@ -126,6 +139,8 @@ pub fn plan_of(style: u32, case: u32, seed: u32) -> Plan {
         9 => mixed(seed, 1 + draw::upto(seed, 4, 7)),
         10 => older(mixed(seed, 2 + draw::upto(seed, 4, 18))),
         11 => marked(mixed(seed, 2 + draw::upto(seed, 4, 14))),
-        _ => crowded(seed, case),
+        12 => crowded(seed, case),
+        13 => values::drawn_in(seed, values::WHOLE, 1 + case % 3),
+        _ => tight(seed, case),
     }
 }

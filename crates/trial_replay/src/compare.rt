@@ -1,5 +1,6 @@
 // The library and the model on one replay, or on one line.
 use super::parts;
+use super::parts::Parts;
 use model_replay::Ended;
 use script::Line;
 use trial_kit::bytes::least;
@@ -27,9 +28,9 @@ fn library_writes(file: &[u8], script: &[u8], out: &mut [u8], size: usize) -> us
 }
 
 // The same, with the script in parts.
-fn parts_write(file: &[u8], script: &[u8], out: &mut [u8], size: usize, seed: u8) -> usize {
+fn parts_write(file: &[u8], script: &[u8], out: &mut [u8], size: usize, p: Parts) -> usize {
     let lent = least(size, out.len());
-    parts::replayed(file, script, &mut out[0..lent], seed)
+    parts::replayed(file, script, &mut out[0..lent], p)
 }
 
 fn model_writes(file: &[u8], script: &[u8], out: &mut [u8], size: usize) -> Ended {
@@ -57,16 +58,17 @@ fn parts_agree(
     script: &[u8],
     size: usize,
     filled: u8,
+    p: Parts,
     text: &[u8; 16384],
     bytes: usize,
 ) -> bool {
     let mut out = [filled; 16384];
-    let written = parts_write(file, script, &mut out, size, filled);
+    let written = parts_write(file, script, &mut out, size, p);
     both(written == bytes, check::same(&out, text))
 }
 
 // The whole output, of the script whole and in parts, into equal buffers of which the first bytes are lent.
-pub fn replayed(file: &[u8], script: &[u8], size: usize, filled: u8) -> Outcome {
+pub fn replayed(file: &[u8], script: &[u8], size: usize, filled: u8, p: Parts) -> Outcome {
     let mut text = [filled; 16384];
     let e = model_writes(file, script, &mut text, size);
     Outcome {
@@ -74,7 +76,7 @@ pub fn replayed(file: &[u8], script: &[u8], size: usize, filled: u8) -> Outcome 
         periods: (e.periods % 65536) as u32,
         same: both(
             library_agrees(file, script, size, filled, &text, e.bytes),
-            parts_agree(file, script, size, filled, &text, e.bytes),
+            parts_agree(file, script, size, filled, p, &text, e.bytes),
         ),
     }
 }
@@ -83,7 +85,7 @@ pub fn replayed(file: &[u8], script: &[u8], size: usize, filled: u8) -> Outcome 
 pub fn replayed_as(file: &[u8], script: &[u8], due: &[u8], filled: u8) -> Outcome {
     let mut text = [filled; 16384];
     let bytes = model_replay::text::put_text(&mut text, 0, due);
-    let o = replayed(file, script, BUFFER, filled);
+    let o = replayed(file, script, BUFFER, filled, parts::drawn(filled));
     let as_due = library_agrees(file, script, BUFFER, filled, &text, bytes);
     Outcome {
         number: o.number,

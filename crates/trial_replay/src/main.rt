@@ -19,33 +19,40 @@ fn compared(file: &[u8], script: &[u8], c: Case, filebytes: usize, bytes: usize)
     let a = bytes::least(filebytes, file.len());
     let b = bytes::least(bytes, script.len());
     let filled = draw::low(c.seed);
+    let p = if c.kind == cases::PLACES {
+        parts::at_place(c.case)
+    } else {
+        parts::drawn(filled)
+    };
     if c.kind == cases::LINES {
         compare::line(&script[0..b], filled)
     } else {
-        compare::replayed(&file[0..a], &script[0..b], cases::lent(c), filled)
+        compare::replayed(&file[0..a], &script[0..b], cases::lent(c), filled, p)
     }
 }
 
-fn try_case(script: &mut [u8], c: Case) -> Outcome {
+fn try_case(script: &mut [u8], words: &mut [u64], c: Case) -> Outcome {
     let mut file = [0u8; 1040];
     let filebytes = files::put(&mut file, c);
-    let bytes = scripts::put(script, c);
+    let bytes = scripts::put(script, words, c);
     compared(&file, script, c, filebytes, bytes)
 }
 
 fn try_kind(names: &[u8], before: Tally, script: &mut [u8], kind: u32) -> Tally {
     let mut t = tally::next_kind(before);
+    let mut words = [0u64; 483];
     let mut periods: u32 = 0;
     let most = cases::runs(kind);
     let mut case: u32 = 0;
     while case < most {
-        let o = try_case(script, cases::of(kind, case));
+        let o = try_case(script, &mut words, cases::of(kind, case));
         let next = tally::counted(t, kind, case, compare::verdict(o));
         t = next;
         periods = std::num::wrapping_add_u32(periods, o.periods);
         case += 1;
     }
     report::kind_line(names, t, kind, periods);
+    report::verdicts_line(&words, kind);
     t
 }
 

@@ -3,6 +3,8 @@ use trial_kit::lines;
 use trial_kit::report;
 use trial_kit::report::say;
 use trial_kit::tally::Tally;
+use trial_scripts::cases;
+use trial_scripts::lines::TOLD;
 
 // Where the name of a kind stands: the text given has the names in the order of the kinds, each behind the word `kind`.
 fn name_of(given: &[u8], kind: u32) -> usize {
@@ -33,6 +35,20 @@ pub fn counts_line(t: Tally, periods: u32) {
 pub fn kind_line(given: &[u8], t: Tally, kind: u32, periods: u32) {
     lines::say_line(given, name_of(given, kind));
     counts_line(t, periods);
+}
+
+// How often each verdict was told in the slots of a kind's scripts, where these are rows.
+pub fn verdicts_line(words: &[u64], kind: u32) {
+    if kind < cases::ROWS {
+        return;
+    }
+    say(b"verdicts 0 to 6 in these:");
+    let mut k = TOLD;
+    while k < words.len() {
+        report::say_number(b" ", (words[k] % 4294967296) as u32);
+        k += 1;
+    }
+    say(b"\n");
 }
 
 // The refusals, the total, and where something differed its first kind and case.

@@ -25,7 +25,7 @@ use trial_kit::tally::Tally;
 use trial_scripts::lines::put_part;
 
 // The kind of all stated cases, behind the others.
-const STATED: u32 = 31;
+const STATED: u32 = 38;
 
 // The bytes so far of the plan file, the script and the text due, where the case's name stands, its number, and the periods
 // that its replays closed.

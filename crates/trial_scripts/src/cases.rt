@@ -7,8 +7,14 @@ use trial_kit::values;
 
 // The kinds 0 to 3 have damaged or drawn plan files, 4 to 11 and 28 scripts that are taken, 12 to 20 a line put among others in
 // one of nine ways, 21 to 25 damaged or drawn scripts, 26 short buffers, 27 lines read by themselves, and 29 and 30 plan files
-// with leftovers.
-pub const KINDS: u32 = 31;
+// with leftovers. From 31 on there are rows of slot lines: with a byte of one put to each value (31), with another line among
+// them (32), with P 1, 2 and 3 (33) and 4,096 (34), under plans whose claims and caps are used up (35), in parts that end at one
+// place of each line (36), and with short buffers (37).
+pub const KINDS: u32 = 38;
+
+pub const ROWS: u32 = 31;
+
+pub const PLACES: u32 = 36;
 
 pub const LINES: u32 = 27;
 
@@ -45,6 +51,13 @@ pub fn runs(kind: u32) -> u32 {
         27 => 12000,
         28 => 300,
         29 => 1600,
+        31 => 5120,
+        32 => 240,
+        33 => 90,
+        34 => 2,
+        35 => 100,
+        36 => 200,
+        37 => 700,
         _ => 2000,
     }
 }
@@ -61,11 +74,17 @@ fn run_of(kind: u32, case: u32) -> u32 {
 // Sixteen domains where there are yields to edit.
 fn style_of(kind: u32, run: u32) -> u32 {
     match kind {
-        0 | 5 | 11 => styles::SMALL,
+        0 | 5 | 11 | 32 => styles::SMALL,
         2 | 3 | 7 | 30 => styles::NONE,
         4 => styles::ONE,
         28 => styles::MARKED,
-        6 => styles::MOST,
+        6 | 34 => styles::MOST,
+        31 | 33 | 37 => styles::SHORT,
+        35 => if run % 2 == 0 {
+            styles::TIGHT
+        } else {
+            styles::WHOLE
+        },
         8 => styles::SIXTEEN,
         9 => styles::UNRESERVED,
         10 | 15 | 16 | 17 => styles::WHOLE,
@@ -107,24 +126,42 @@ pub fn first_lines(c: Case) -> u32 {
         21..=23 => 22,
         26 => if c.run % 3 == 0 { 200 } else { 30 },
         28 => 150,
+        31 => 2 + draw::upto(c.seed, 80, 3),
+        32 => draw::upto(c.seed, 80, 250),
+        33 => 85 * (1 + c.case % 3),
+        34 => 4300,
+        35 => 300,
+        36 => 40,
+        37 => 20,
         _ => 0,
     }
 }
 
+// In rows there are few yields or none.
 pub fn weights(c: Case) -> Weights {
+    let kind = c.kind;
     Weights {
         offers: 9,
-        writebacks: if c.kind == 6 { 12 } else { 4 },
-        yields: if c.kind == 11 { 10 } else { 3 },
+        writebacks: match kind {
+            6 => 12,
+            35 => 8,
+            _ => 4,
+        },
+        yields: match kind {
+            11 => 10,
+            32 | 35 => c.case % 2,
+            31..=37 => 0,
+            _ => 3,
+        },
     }
 }
 
 // The bytes lent for the text.
 pub fn lent(c: Case) -> usize {
-    if c.kind == 26 {
-        (c.case % 700) as usize
-    } else {
-        BUFFER
+    let kind = c.kind;
+    match kind {
+        26 | 37 => (c.case % 700) as usize,
+        _ => BUFFER,
     }
 }
 

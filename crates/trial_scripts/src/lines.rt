@@ -144,12 +144,31 @@ pub fn drawn_yield(s: &[u64], seed: u32) -> Amount {
     }
 }
 
+// Where it is counted, behind the state's words, how often each verdict was told in the slots that were put.
+pub const TOLD: usize = 476;
+
+fn count_verdict(s: &mut [u64], verdict: u8) {
+    let at = TOLD + (verdict % 7) as usize;
+    if at < s.len() {
+        s[at] = std::num::wrapping_add_u64(s[at], 1);
+    }
+}
+
+fn count_verdicts(s: &mut [u64], verdicts: [u8; 17]) {
+    let mut n: usize = 0;
+    while n < 17 {
+        count_verdict(s, verdicts[n]);
+        n += 1;
+    }
+}
+
 // A slot line of drawn offers, which the state goes along with.
 pub fn put_drawn_slot(script: &mut [u8], at: usize, s: &mut [u64], w: Weights, seed: u32) -> usize {
     let offers = drawn_offers(s, w, seed);
     let mut verdicts = [0u8; 17];
     let mut counts = [0u64; 238];
     model_calls::slot(s, &offers, &mut verdicts, &mut counts);
+    count_verdicts(s, verdicts);
     put_slot(script, at, &offers, 17)
 }
 

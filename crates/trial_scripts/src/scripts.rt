@@ -59,13 +59,14 @@ fn put_amounts(script: &mut [u8], at: usize, s: &[u64], c: Case) -> usize {
     lines::put_yield(script, at, wrong::spoiled_yield(y, claim, c.case, c.seed))
 }
 
-// One line put in a way; a long one has 100,000 digits, or a part of so many.
+// One line put in a way, none in another; a long one has 100,000 digits, or a part of so many.
 fn put_line(script: &mut [u8], at: usize, s: &[u64], way: u32, c: Case) -> usize {
     match way {
         OFFERS => put_offers(script, at, s, c),
         AMOUNTS => put_amounts(script, at, s, c),
         LONG => lines::put_slot(script, at, b"", 100000 / (c.case % 1000 + 1) as usize),
-        _ => put_edited(script, at, s, way, c),
+        0..=5 => put_edited(script, at, s, way, c),
+        _ => at,
     }
 }
 
@@ -73,6 +74,21 @@ fn put_line(script: &mut [u8], at: usize, s: &[u64], way: u32, c: Case) -> usize
 fn put_among(script: &mut [u8], from: usize, s: &mut [u64], way: u32, c: Case) -> usize {
     let at = put_line(script, from, s, way, c);
     lines::put_lines(script, at, s, cases::weights(c), c.seed, 3)
+}
+
+// A line put in one of the nine ways, and a hundred that would be taken; or these alone, of which in a tenth way the last one is
+// cut.
+fn put_in_row(script: &mut [u8], from: usize, s: &mut [u64], c: Case) -> usize {
+    let way = c.case % 12;
+    let mut of = c;
+    of.case = draw::draw(c.seed, 81);
+    let at = put_line(script, from, s, way, of);
+    let end = lines::put_lines(script, at, s, cases::weights(c), c.seed, 100);
+    if way == 9 {
+        std::num::wrapping_sub_usize(end, 1 + (of.case % 19) as usize)
+    } else {
+        end
+    }
 }
 
 // A byte of the sort that scripts are made of, or any.
@@ -154,9 +170,14 @@ fn put_pieces(script: &mut [u8], seed: u32) -> usize {
     at
 }
 
-// A line of neither form behind all others, in every second case, or run of short buffers.
+// A line of neither form behind all others, in every second case, run of short buffers, or twenty cases of a place each.
 fn put_last(script: &mut [u8], at: usize, c: Case) -> usize {
-    let number = if c.kind == 26 { c.run } else { c.case };
+    let kind = c.kind;
+    let number = match kind {
+        26 => c.run,
+        cases::PLACES => c.case / 20,
+        _ => c.case,
+    };
     if number % 2 == 0 {
         at
     } else {
@@ -188,21 +209,23 @@ fn put_alone(script: &mut [u8], s: &[u64], c: Case) -> usize {
 fn put_behind(script: &mut [u8], at: usize, s: &mut [u64], c: Case) -> usize {
     let kind = c.kind;
     match kind {
-        6 | 7 | 26 => put_last(script, at, c),
+        6 | 7 | 26 | 36 => put_last(script, at, c),
         12..=20 => put_among(script, at, s, kind - 12, c),
+        31 => put_among(script, at, s, 2, c),
+        32 => put_in_row(script, at, s, c),
         23 => bytes::least((c.case % 400) as usize, at),
         24 | 25 | 27 => put_alone(script, s, c),
         _ => at,
     }
 }
 
-// Puts the script and answers its bytes.
-pub fn put(script: &mut [u8], c: Case) -> usize {
-    let mut s = [0u64; 476];
-    cases::open(&mut s, c);
+// Puts the script and answers its bytes. The words lent are those of the model's state, and behind them the verdicts told.
+pub fn put(script: &mut [u8], s: &mut [u64], c: Case) -> usize {
+    let words = bytes::least(lines::TOLD, s.len());
+    cases::open(&mut s[0..words], c);
     let w = cases::weights(c);
-    let at = lines::put_lines(script, 0, &mut s, w, c.shared, cases::first_lines(c));
-    let size = put_behind(script, at, &mut s, c);
+    let at = lines::put_lines(script, 0, s, w, c.shared, cases::first_lines(c));
+    let size = put_behind(script, at, s, c);
     spoil(script, size, spoiled(c.kind), c.seed);
     size
 }

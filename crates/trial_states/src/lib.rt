@@ -6,6 +6,7 @@ pub mod estimates;
 pub mod forms;
 pub mod handing;
 pub mod marks;
+pub mod passing;
 pub mod styles;
 pub mod sums;
 pub mod writes;

@@ -41,7 +41,7 @@ fn styled(
 }
 
 // Kinds 0 and 1 are openings, 2 to 14, 21 to 23, 27 and 30 to 32 runs, 15 to 20, 24 to 26, 28 and 29 runs at whose every step a
-// changed state is tried too.
+// changed state is tried too. Those behind have single slots: each turn with each size of a passing set, 24 times.
 pub fn of_kind(kind: u32) -> Style {
     match kind {
         0 => styled(styles::ACCEPTED, 1500, 0, 0, 0, 0, 0, 0, 0),
@@ -76,6 +76,7 @@ pub fn of_kind(kind: u32) -> Style {
         29 => styled(styles::LEAST, 100, 40, 9, 4, 3, 0, 2, 8),
         30 => styled(styles::MARKED, 150, 300, 8, 3, 1, 0, 0, 0),
         31 => styled(styles::MARKED, 150, 120, 10, 3, 2, 1, 4, 14),
-        _ => styled(styles::CROWDED, 192, 160, 16, 15, 1, 1, 4, 12),
+        32 => styled(styles::CROWDED, 192, 160, 16, 15, 1, 1, 4, 12),
+        _ => styled(styles::NONE, 7344, 0, 0, 0, 0, 0, 0, 0),
     }
 }

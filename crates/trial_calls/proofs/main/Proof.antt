@@ -8,10 +8,10 @@ use Rattle.trial_calls.proofs.main.Statement.{statement}
 use Rattle.trial_calls.proofs.main.Tie as tie
 
 abbrev Inv-loop : tie.InvT-loop
-Inv-loop rows₀ bytes r₀ kind₀ rows r kind = (kind ≤ 33) × (length rows ≡ 308)
+Inv-loop rows₀ bytes r₀ kind₀ rows r kind = (kind ≤ 37) × (length rows ≡ 308)
 
 abbrev μ-loop : tie.MeasureT-loop
-μ-loop rows₀ bytes r₀ kind₀ rows r kind = 33 - kind
+μ-loop rows₀ bytes r₀ kind₀ rows r kind = 37 - kind
 
 pub main-spec : {M : Type 1} → statement M
 main-spec =

@@ -1,6 +1,6 @@
 -- `trial_replay::try_kind` tries the cases of a kind one after the other, and ends.
 -- Assumes nothing.
-use Prim.Native.Nat.{_≤_, _-_}
+use Prim.Native.Nat.{_-_, _≤_}
 use borrow.Author.Needs.{needs}
 use mathlib.Core.Path.{_≡_}
 use lib.ListN.{length}
@@ -8,10 +8,10 @@ use Rattle.trial_replay.proofs.try_kind.Statement.{statement}
 use Rattle.trial_replay.proofs.try_kind.Tie as tie
 
 abbrev Inv-loop : tie.InvT-loop
-Inv-loop names script₀ kind t₀ periods₀ most case₀ script t periods case = (case ≤ most) × (length script ≡ length script₀)
+Inv-loop names script₀ kind t₀ words₀ periods₀ most case₀ script t words periods case = (case ≤ most) × (length script ≡ length script₀) × (length words ≡ 483)
 
 abbrev μ-loop : tie.MeasureT-loop
-μ-loop names script₀ kind t₀ periods₀ most case₀ script t periods case = most - case
+μ-loop names script₀ kind t₀ words₀ periods₀ most case₀ script t words periods case = most - case
 
 pub try-kind-spec : {M : Type 1} → statement M
 try-kind-spec =
@@ -22,6 +22,7 @@ try-kind-spec =
     (λ c κs. search needs)
     (λ c κs. search needs)
     (λ c. search needs)
+    (λ c. search needs)
     (λ c κs. search needs)
     (λ c κs. search needs)
     (λ c κs. search needs)
@@ -29,6 +30,8 @@ try-kind-spec =
     (λ c κs. search needs)
     (λ c. search needs)
     (λ c. search needs)
+    (λ c. search needs)
+    (λ c κs. search needs)
     (λ c. search needs)
     (λ c κs. search needs)
     (λ c. search needs)

@@ -8,10 +8,10 @@ use Rattle.trial_replay.proofs.try_kinds.Statement.{statement}
 use Rattle.trial_replay.proofs.try_kinds.Tie as tie
 
 abbrev Inv-loop : tie.InvT-loop
-Inv-loop names script₀ t₀ kind₀ script t kind = (kind ≤ 31) × (length script ≡ length script₀)
+Inv-loop names script₀ t₀ kind₀ script t kind = (kind ≤ 38) × (length script ≡ length script₀)
 
 abbrev μ-loop : tie.MeasureT-loop
-μ-loop names script₀ t₀ kind₀ script t kind = 31 - kind
+μ-loop names script₀ t₀ kind₀ script t kind = 38 - kind
 
 pub try-kinds-spec : {M : Type 1} → statement M
 try-kinds-spec =

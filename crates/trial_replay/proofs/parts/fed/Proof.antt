@@ -12,18 +12,18 @@ use Rattle.trial_replay.proofs.parts.fed.Statement.{statement}
 use Rattle.trial_replay.proofs.parts.fed.Tie as tie
 
 abbrev Inv-loop : tie.InvT-loop
-Inv-loop script out₀ step r₀ end₀ out r end = (end ≤ length script) × (length out ≡ length out₀) × Sound r × (r .used ≤ end)
+Inv-loop script out₀ first step r₀ end₀ more₀ out r end more = (end ≤ length script) × (length out ≡ length out₀) × Sound r × (r .used ≤ end) × (0 < more)
 
 abbrev μ-loop : tie.MeasureT-loop
-μ-loop script out₀ step r₀ end₀ out r end = length script - end
+μ-loop script out₀ first step r₀ end₀ more₀ out r end more = length script - end
 
-given : (c : tie.Start Inv-loop μ-loop) → Sound (c .args .run) × (c .args .run .used ≡ 0) × (0 < c .args .step)
+given : (c : tie.Start Inv-loop μ-loop) → Sound (c .args .run) × (c .args .run .used ≡ 0) × ((0 < c .args .first) × (0 < c .args .step))
 given c = search needs
 
 loop-holds : tie.Need-loop-holds Inv-loop μ-loop
 loop-holds c =
     let g = given (c .before .before) in
-    (omega arith, search needs, g .0, omega (arith, g .1))
+    (omega arith, search needs, g .0, omega (arith, g .1), g .2 .0)
 
 sub-loop : tie.Need-sub-loop Inv-loop μ-loop
 sub-loop c = c .loop .inv .0
@@ -38,11 +38,11 @@ add-end c =
 
 -- the part has as many bytes as it says
 part-is : (c : tie.In-loop Inv-loop μ-loop) → (let l = c .before in let a = l .before .before .before .args in
-    length (take (l .loop .end + a .step) (now (a .script))) ≡ l .loop .end + a .step)
+    length (take (l .loop .end + l .loop .more) (now (a .script))) ≡ l .loop .end + l .loop .more)
 part-is c =
     let l = c .before in
     let a = l .before .before .before .args in
-    length-take-le (l .loop .end + a .step) (now (a .script)) (omega (arith, c .loop-test .taken, l .loop .inv .0))
+    length-take-le (l .loop .end + l .loop .more) (now (a .script)) (omega (arith, c .loop-test .taken, l .loop .inv .0))
 
 slice-aggregate-feed : tie.Need-slice-aggregate-feed Inv-loop μ-loop
 slice-aggregate-feed c = sym (part-is (c .before))
@@ -56,7 +56,7 @@ feed-requires c κs =
 loop-less : tie.Need-loop-less Inv-loop μ-loop
 loop-less c =
     let h = c .before .before .before .before .before in
-    omega (arith, h .loop-test .taken, given (h .before .before .before .before) .2)
+    omega (arith, h .loop-test .taken, h .before .loop .inv .4)
 
 loop-again : tie.Need-loop-again Inv-loop μ-loop
 loop-again c =
@@ -67,6 +67,7 @@ loop-again c =
       search needs,
       f .feed .ensures .fed .sound,
       omega (arith, f .feed .ensures .fed .within, part-is h),
+      given (l .before .before .before) .2 .1,
     )
 
 finish-requires : tie.Need-finish-requires Inv-loop μ-loop
