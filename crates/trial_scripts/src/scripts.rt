@@ -76,10 +76,13 @@ fn put_among(script: &mut [u8], from: usize, s: &mut [u64], way: u32, c: Case) -
     lines::put_lines(script, at, s, cases::weights(c), c.seed, 3)
 }
 
-// A line put in one of the nine ways, and a hundred that would be taken; or these alone, of which in a tenth way the last one is
-// cut.
+// A line put in one of the nine ways, most often with offers that may not be taken, and a hundred that would be; or these alone,
+// of which in a tenth way the last one is cut.
 fn put_in_row(script: &mut [u8], from: usize, s: &mut [u64], c: Case) -> usize {
-    let way = c.case % 12;
+    let way = match c.case % 16 {
+        12..=15 => OFFERS,
+        _ => c.case % 16,
+    };
     let mut of = c;
     of.case = draw::draw(c.seed, 81);
     let at = put_line(script, from, s, way, of);
