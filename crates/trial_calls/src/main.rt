@@ -23,10 +23,7 @@ const KINDS: u32 = 37;
 fn start() -> Run {
     Run {
         tally: tally::start(),
-        seen: Seen {
-            counts: [0; 134],
-            turns: [0; 34],
-        },
+        seen: Seen { counts: [0; 132] },
         before: 0,
     }
 }
@@ -43,7 +40,7 @@ fn try_case(r: Run, rows: &mut [u64], of: Case, style: Style) -> Run {
     if of.kind < passing::KIND {
         run::tried(r, rows, of, style)
     } else {
-        turns::tried(r, of)
+        turns::tried(r, rows, of)
     }
 }
 
@@ -68,7 +65,7 @@ fn try_kind(before: Run, rows: &mut [u64], kind: u32) -> Run {
 
 fn main() {
     let mut text = io::large_buffer();
-    let mut rows = [0u64; 308];
+    let mut rows = [0u64; 344];
     let bytes = io::read_full(0, &mut text);
     let mut r = script::cases(start(), &mut rows, &text[..bytes]);
     let mut kind: u32 = 0;

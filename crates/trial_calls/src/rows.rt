@@ -1,7 +1,8 @@
-// The rows of Point 8: each call of a list is entered into them, and what was counted of them is printed.
+// The rows of Point 8: each call of a list is entered into them, and what was counted of them, and of turns, is printed.
 use super::both::Told;
 use trial_kit::lines;
 use trial_kit::report;
+use trial_rows::turns;
 use trial_states::calls;
 
 // Enters a call on a state of these words; tells whether no row is above the number of domains planned.
@@ -62,6 +63,15 @@ fn say_full(rows: &[u64]) {
     report::say(b"\n");
 }
 
+fn say_turns(rows: &[u64]) {
+    report::say_number(
+        b"turns and sizes of passing sets seen: ",
+        turns::sizes(rows),
+    );
+    report::say_number(b" of 306\nturns and steps seen: ", turns::steps(rows));
+    report::say(b" of 306\n");
+}
+
 pub fn lines(rows: &[u64]) {
     let mut k: usize = 0;
     while k < trial_rows::LINES {
@@ -71,4 +81,5 @@ pub fn lines(rows: &[u64]) {
         k += 1;
     }
     say_full(rows);
+    say_turns(rows);
 }

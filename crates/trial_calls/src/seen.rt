@@ -12,10 +12,9 @@ use trial_states::estimates;
 
 // How often verdicts 0 to 6 were told stands at 0 to 6, how often steps 0 to 17 at 80 to 97, and behind them, by their sorts,
 // the estimates of marked domains before and after closes, and the needs that they leave; then what was put to the second
-// engine. Of each turn the sizes of the sets that passed, and behind them the steps, are told by bits.
+// engine.
 pub struct Seen {
-    pub counts: [u32; 134],
-    pub turns: [u32; 34],
+    pub counts: [u32; 132],
 }
 
 pub const IDLE: usize = 7;
@@ -76,14 +75,11 @@ const NEEDS: usize = 123;
 // The slot calls put to the second engine, and of them those that it refused.
 const SECOND: usize = 130;
 
-// The pairs of a turn and a size, and of a turn and steps.
-const SIZES: usize = 132;
-
-const STEPPED: usize = 133;
+const COUNTS: usize = 132;
 
 pub fn raised(seen: Seen, k: usize, by: u32) -> Seen {
     let mut after = seen;
-    let at = k % 134;
+    let at = k % 132;
     let x = after.counts[at];
     if x < 1000000000 {
         after.counts[at] = x + by % 65536;
@@ -165,25 +161,6 @@ pub fn with_second(seen: Seen, part: u8) -> Seen {
     }
     let asked = raised(seen, SECOND, 1);
     raised(asked, SECOND + 1, if part == both::REFUSED { 1 } else { 0 })
-}
-
-// The pair of a row and a number up to 17, which is counted where it was not seen before.
-fn with_pair(seen: Seen, row: usize, number: u32, line: usize) -> Seen {
-    let at = row % 34;
-    let bits = seen.turns[at];
-    let bit = 1u32 << number % 18;
-    if (bits & bit) != 0 {
-        return seen;
-    }
-    let mut after = raised(seen, line, 1);
-    after.turns[at] = bits | bit;
-    after
-}
-
-// A slot with this turn: how many numbers passed, and its steps.
-pub fn with_turn(seen: Seen, turn: usize, size: u32, steps: u32) -> Seen {
-    let row = turn % 17;
-    with_pair(with_pair(seen, row, size, SIZES), row + 17, steps, STEPPED)
 }
 
 // A marked domain at a close, from the words before it and after: its estimates, and its need where it has one.
@@ -354,7 +331,7 @@ fn say_name(k: usize) {
 
 // A name, and the counts from one to before another.
 fn say_row(seen: Seen, name: &[u8], from: usize, to: usize)
-    requires { ⌜ to ≤ 134 ⌝ }
+    requires { ⌜ to ≤ 132 ⌝ }
 {
     report::say(name);
     let mut k = from;
@@ -365,16 +342,7 @@ fn say_row(seen: Seen, name: &[u8], from: usize, to: usize)
     report::say(b"\n");
 }
 
-fn say_pairs(seen: Seen) {
-    report::say_number(
-        b"turns and sizes of passing sets seen: ",
-        seen.counts[SIZES],
-    );
-    report::say_number(b" of 306\nturns and steps seen: ", seen.counts[STEPPED]);
-    report::say(b" of 306\n");
-}
-
-// The counts that stand in rows: steps, estimates and needs, and what the second engine was asked; and the pairs.
+// The counts that stand in rows: steps, estimates and needs, and what the second engine was asked.
 fn say_rows(seen: Seen) {
     say_row(seen, b"slots by their steps, 0 to 17:", STEPS, BEFORE);
     say_row(
@@ -400,9 +368,8 @@ fn say_rows(seen: Seen) {
         seen,
         b"slot calls put to the second engine, and of them refused by it:",
         SECOND,
-        SIZES,
+        COUNTS,
     );
-    say_pairs(seen);
 }
 
 pub fn lines(seen: Seen) {

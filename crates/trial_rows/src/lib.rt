@@ -1,7 +1,9 @@
 // The rows of a list of calls, counted from the verdicts told. A number's row is in how many decided slots in a row, under one
 // plan, it passed the rules and was not granted: verdict 2. With n domains planned no row is above n (Point 8 of document 02).
-// Rows lie in 308 lent words: those of one list, and behind them what was counted in all lists.
+// Rows lie in 344 lent words: those of one list, and behind them what was counted in all lists, last what was seen of turns.
 ghost use Prim.Native.Nat.{_<_, _≤_};
+
+pub mod turns;
 
 // The words of one list: each number's row, and its row whatever plans took force in it; the slots decided; of each event, how
 // many were decided when it last came; the domains planned in the last decided slot and in the one before; and the plan of the

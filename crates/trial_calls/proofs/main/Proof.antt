@@ -8,7 +8,7 @@ use Rattle.trial_calls.proofs.main.Statement.{statement}
 use Rattle.trial_calls.proofs.main.Tie as tie
 
 abbrev Inv-loop : tie.InvT-loop
-Inv-loop rows₀ bytes r₀ kind₀ rows r kind = (kind ≤ 37) × (length rows ≡ 308)
+Inv-loop rows₀ bytes r₀ kind₀ rows r kind = (kind ≤ 37) × (length rows ≡ 344)
 
 abbrev μ-loop : tie.MeasureT-loop
 μ-loop rows₀ bytes r₀ kind₀ rows r kind = 37 - kind

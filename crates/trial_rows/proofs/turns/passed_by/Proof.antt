@@ -1,9 +1,9 @@
--- `trial_calls::turns::passed_by` asks seventeen numbers at most, and ends.
+-- `trial_rows::turns::passed_by` asks seventeen numbers at most, and ends.
 -- Assumes nothing.
 use Prim.Native.Nat.{_-_, _≤_, _<_}
 use borrow.Author.Needs.{needs}
-use Rattle.trial_calls.proofs.turns.passed_by.Statement.{statement}
-use Rattle.trial_calls.proofs.turns.passed_by.Tie as tie
+use Rattle.trial_rows.proofs.turns.passed_by.Statement.{statement}
+use Rattle.trial_rows.proofs.turns.passed_by.Tie as tie
 
 abbrev Inv-loop : tie.InvT-loop
 Inv-loop turn set n₀ steps₀ n steps = (n < 17) × (steps ≤ 17)

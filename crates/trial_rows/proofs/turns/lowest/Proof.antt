@@ -1,9 +1,9 @@
--- `trial_calls::turns::lowest` looks at the numbers up to 16, and ends.
+-- `trial_rows::turns::lowest` looks at the numbers up to 16, and ends.
 -- Assumes nothing.
 use Prim.Native.Nat.{_-_, _≤_}
 use borrow.Author.Needs.{needs}
-use Rattle.trial_calls.proofs.turns.lowest.Statement.{statement}
-use Rattle.trial_calls.proofs.turns.lowest.Tie as tie
+use Rattle.trial_rows.proofs.turns.lowest.Statement.{statement}
+use Rattle.trial_rows.proofs.turns.lowest.Tie as tie
 
 abbrev Inv-loop : tie.InvT-loop
 Inv-loop from set n₀ n = from ≤ n

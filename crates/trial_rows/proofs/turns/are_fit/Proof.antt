@@ -1,18 +1,18 @@
--- `trial_calls::turns::size` counts in seventeen verdicts, and ends.
+-- `trial_rows::turns::are_fit` looks at seventeen verdicts, and ends.
 -- Assumes nothing.
 use Prim.Native.Nat.{_-_, _≤_}
 use borrow.Author.Needs.{needs}
-use Rattle.trial_calls.proofs.turns.size.Statement.{statement}
-use Rattle.trial_calls.proofs.turns.size.Tie as tie
+use Rattle.trial_rows.proofs.turns.are_fit.Statement.{statement}
+use Rattle.trial_rows.proofs.turns.are_fit.Tie as tie
 
 abbrev Inv-loop : tie.InvT-loop
-Inv-loop verdicts passed₀ n₀ passed n = (n ≤ 17) × (passed ≤ n)
+Inv-loop chosen verdicts set n₀ n = n ≤ 17
 
 abbrev μ-loop : tie.MeasureT-loop
-μ-loop verdicts passed₀ n₀ passed n = 17 - n
+μ-loop chosen verdicts set n₀ n = 17 - n
 
-pub size-spec : {M : Type 1} → statement M
-size-spec =
+pub are-fit-spec : {M : Type 1} → statement M
+are-fit-spec =
     tie.close
     (tie.spec
     Inv-loop
