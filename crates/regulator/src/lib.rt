@@ -10,7 +10,7 @@
 // from an opened plan does: they require it, and do not check it again.
 //
 // adds_up, check_slot, without_counts, rule, mark and grant_slot are the parts of a slot call that a second engine shares: all but
-// who passes and who is granted.
+// who passes and who is granted. loose, lowest_waiting, claim_of and is_no_domain are what a caller needs that tells why.
 mod calls;
 mod close;
 mod forecast;
@@ -38,8 +38,12 @@ pub use close::without_counts;
 pub use forecast::Estimate;
 pub use forecast::Tracked;
 pub use refusals::check_slot;
+pub use refusals::is_no_domain;
 pub use state::State;
 pub use state::Waiting;
 pub use state::adds_up;
 pub use turn::mark;
+pub use verdict::claim_of;
+pub use verdict::loose;
+pub use verdict::lowest_waiting;
 pub use verdict::rule;

@@ -78,7 +78,8 @@ pub fn check_slot(s: State, offers: &[u8], room: usize) -> u8
     check_offers(p, offers, room)
 }
 
-fn is_no_domain(p: Plan, domain: u64) -> bool
+// Is a number 0, above 16, or that of a domain that is not planned?
+pub fn is_no_domain(p: Plan, domain: u64) -> bool
     ensures { λ b. ⌜ b ≡ noDomain p domain ⌝ }
 {
     if domain == 0 {

@@ -5,9 +5,8 @@ ghost use Prim.Native.Nat.{_≤_};
 ghost use lib.Dec.{eqb};
 ghost use lib.ListN.{length};
 ghost use lib.IntN.{pos, _-ℤ_};
-ghost use lib.Signed.{leZ};
-ghost use Rattle.table.specs.Ranges.{someBelow};
-ghost use Rattle.regulator.specs.Verdict.{atCap, claimOf, waits, waiting, blocked as blockedIn, ruling, bestRuling, domainRuling};
+ghost use Rattle.table.specs.Ranges.{lowest};
+ghost use Rattle.regulator.specs.Verdict.{atCap, claimOf, waits, waiting, loose as looseOf, blocked as blockedIn, ruling, bestRuling, domainRuling};
 ghost use Rattle.regulator.specs.Turn.{rulings};
 use super::state::State;
 
@@ -19,7 +18,7 @@ fn is_at_cap(offer: u8, writebacks: u16, w: u16) -> bool
 }
 
 // The claim of the kind that is offered.
-fn claim_of(offer: u8, claim: u16, writebackclaim: u16) -> u16
+pub fn claim_of(offer: u8, claim: u16, writebackclaim: u16) -> u16
     ensures { λ r. ⌜ r ≡ claimOf offer claim writebackclaim ⌝ }
 {
     if offer == 2 { writebackclaim } else { claim }
@@ -33,28 +32,39 @@ fn is_waiting(offer: u8, claim: u16, writebackclaim: u16) -> bool
     offer != 0 && 0 < left
 }
 
-// Is some domain waiting on claim?
-fn any_waiting(s: State, offers: &[u8]) -> bool
+// The index of the lowest domain that is waiting on claim, or 16.
+pub fn lowest_waiting(s: State, offers: &[u8]) -> usize
     requires { ⌜ length (now offers) ≡ 17 ⌝ }
-    ensures { λ b. ⌜ b ≡ someBelow (waiting s (now (offers .entry))) 16 ⌝ }
+    ensures { λ r. ⌜ r ≡ lowest (waiting s (now (offers .entry))) 16 ⌝ }
 {
     let mut j = 0;
     while j < 16 {
         if is_waiting(offers[j + 1], s.claim[j], s.writebackclaim[j]) {
-            return true;
+            return j;
         }
         j += 1;
     }
-    false
+    16
 }
 
-// Is loose, the slots left less the summed claims, at most 0?
-fn is_tight(left: u16, claims: u32) -> bool
+// The slots left less the summed claims.
+fn difference(left: u16, claims: u32) -> i32
     requires { ⌜ claims ≤ 2097120 ⌝ }
-    ensures { λ b. ⌜ b ≡ leZ (pos left -ℤ pos claims) (pos 0) ⌝ }
+    ensures { λ r. ⌜ r ≡ pos left -ℤ pos claims ⌝ }
 {
-    let loose = left as i32 - claims as i32;
-    loose <= 0
+    left as i32 - claims as i32
+}
+
+// Loose: it may be below zero.
+pub fn loose(s: State) -> i32
+    requires { ⌜ s .decided ≤ s .plan .period ⌝ }
+    ensures { λ r. ⌜ r ≡ looseOf s ⌝ }
+{
+    let p = s.plan;
+    let claim = s.claim;
+    let writebackclaim = s.writebackclaim;
+    let claims = table::total(claim) + table::total(writebackclaim);
+    difference(p.period - s.decided, claims)
 }
 
 pub(crate) fn is_blocked(s: State, offers: &[u8]) -> bool
@@ -62,12 +72,8 @@ pub(crate) fn is_blocked(s: State, offers: &[u8]) -> bool
     requires { ⌜ length (now offers) ≡ 17 ⌝ }
     ensures { λ b. ⌜ b ≡ blockedIn s (now (offers .entry)) ⌝ }
 {
-    let p = s.plan;
-    let claim = s.claim;
-    let writebackclaim = s.writebackclaim;
-    let claims = table::total(claim) + table::total(writebackclaim);
-    let tight = is_tight(p.period - s.decided, claims);
-    let some = any_waiting(s, offers);
+    let tight = loose(s) <= 0;
+    let some = lowest_waiting(s, offers) < 16;
     tight && some
 }
 

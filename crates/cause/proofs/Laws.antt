@@ -1,0 +1,3 @@
+-- The laws of causes, by topic.
+pub mod Truth
+pub mod Explaining

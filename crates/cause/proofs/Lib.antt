@@ -1,0 +1,2 @@
+-- What is proved of causes beside the functions.
+pub mod Laws
