@@ -1,16 +1,18 @@
--- What the functions inside the crate promise each other. No contract of a public function cites this.
+-- What the functions inside the crate, and those that a second program over scripts shares, promise each other. No contract of a public
+-- function without a `requires` cites this.
 -- Assumes nothing.
 use Prim.Native.Nat.{ℕ, _+_, _-_, _≤_, _<_}
 use mathlib.Core.Path.{_≡_}
 use mathlib.Core.List.{List}
-use mathlib.Core.Bool.{Bool, true, _&&_}
+use mathlib.Core.Bool.{Bool, true, false, cond, _&&_}
 use lib.ListN.{length, take, drop}
 use lib.Dec.{eqb, ltb}
 use Rattle.table.specs.Sums.{nth}
-use Rattle.script.specs.Line.{before, behind}
+use Rattle.script.specs.Line.{isNumber, valueOf, before, behind}
 use Rattle.script.specs.Replay.{Done}
 use Rattle.script.specs.Output.{output, put}
 use Rattle.script.specs.Feeding.{unended}
+use Rattle.script.specs.declared.line.Numbers.{Numbers}
 use Rattle.script.specs.declared.carrying.Step.{Step}
 
 -- What a search for the first space of a list answers: its place, or the length where there is none.
@@ -18,6 +20,13 @@ pub record Space (bs : List ℕ) (n : ℕ) : Type 0 where
   pub within : n ≤ length bs
   pub ahead : before bs ≡ take n bs
   pub after : behind bs ≡ drop (n + 1) bs
+
+-- Two numbers with a space between them, of at most so many digits each, where bytes write them.
+unfoldable pub numbersIn : (most more : ℕ) → List ℕ → Numbers
+numbersIn most more bs =
+    cond (isNumber most (before bs) && isNumber more (behind bs))
+    (record { written = true; first = valueOf (before bs); second = valueOf (behind bs) })
+    (record { written = false; first = 0; second = 0 })
 
 -- A line that was carried out: what it did, and what it printed went to the buffer.
 pub record Stepped (d : Done) (before : List ℕ) (at : ℕ) (r : Step) (after : List ℕ) : Type 0 where

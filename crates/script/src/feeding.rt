@@ -29,7 +29,7 @@ pub struct Run {
 }
 
 // Where the line that starts at an index ends: at its byte 10; or where it is too long, whatever follows; or else at the end of the part.
-fn line_end(part: &[u8], from: usize) -> usize
+pub fn line_end(part: &[u8], from: usize) -> usize
     requires { ⌜ from ≤ length (now part) ⌝ }
     ensures { λ r. ⌜ LineEnd (now (part .entry)) from r ⌝ }
 {
@@ -108,7 +108,7 @@ fn lacks_room(at: usize, len: usize, room: usize) -> bool
 }
 
 // Is a part from `used` to `end`, where it ends, too short to tell what line it begins?
-fn is_open_end(used: usize, end: usize, len: usize) -> bool
+pub fn is_open_end(used: usize, end: usize, len: usize) -> bool
     requires { ⌜ used ≤ end ⌝ }
     ensures { λ b. ⌜ b ≡ openEnd used end len ⌝ }
 {

@@ -5,7 +5,7 @@ ghost use mathlib.Core.List.{List};
 ghost use Prim.Native.Nat.{ℕ, _-_, _≤_};
 ghost use lib.ListN.{length};
 ghost use Rattle.script.specs.Line.{isDigit, digitsOnly, isNumber, valueOf, isSlot, offersOf, slotMeaning, yieldMeaning, meaningOf, told as toldBy, offersIn};
-ghost use Rattle.script.specs.Inner.{Space};
+ghost use Rattle.script.specs.Inner.{Space, numbersIn};
 
 // What a line is: a slot line, whose offers went to the lent buffer; a yield line, with its domain and count; or neither, with the
 // number that refuses it.
@@ -49,9 +49,9 @@ fn figure(b: u8) -> u8
     b - b'0'
 }
 
-// The number that at most four digits write.
+// The number that at most nine digits write.
 fn value(part: &[u8]) -> u64
-    requires { ⌜ length (now part) ≤ 4 ⌝ }
+    requires { ⌜ length (now part) ≤ 9 ⌝ }
     requires { ⌜ digitsOnly (now part) ≡ true ⌝ }
     ensures { λ r. ⌜ r ≡ valueOf (now (part .entry)) ⌝ }
 {
@@ -78,23 +78,54 @@ fn first_space(rest: &[u8]) -> usize
     i
 }
 
+// Two numbers, where bytes write them.
+pub struct Numbers {
+    pub written: bool,
+    pub first: u64,
+    pub second: u64,
+}
+
+// Two numbers with a space between them, of at most so many digits each.
+pub fn read_numbers(bytes: &[u8], most: usize, more: usize) -> Numbers
+    requires { ⌜ (most ≤ 9) × (more ≤ 9) ⌝ }
+    ensures { λ r. ⌜ r ≡ numbersIn most more (now (bytes .entry)) ⌝ }
+{
+    let space = first_space(bytes);
+    if space == bytes.len() {
+        return Numbers {
+            written: false,
+            first: 0,
+            second: 0,
+        };
+    }
+    let first = &bytes[..space];
+    let second = &bytes[space + 1..];
+    if is_number(first, most) {
+        if is_number(second, more) {
+            return Numbers {
+                written: true,
+                first: value(first),
+                second: value(second),
+            };
+        }
+    }
+    Numbers {
+        written: false,
+        first: 0,
+        second: 0,
+    }
+}
+
 // What stands behind the letter and the space of a yield line.
 fn read_yield(rest: &[u8]) -> Line
     ensures { λ r. ⌜ ((offers : List ℕ) → toldBy r offers ≡ yieldMeaning (now (rest .entry))) ⌝ }
 {
-    let space = first_space(rest);
-    if space == rest.len() {
-        return Line::Bad(41);
-    }
-    let domain = &rest[..space];
-    let k = &rest[space + 1..];
-    if is_number(domain, 2) {
-        if is_number(k, 4) {
-            return Line::Yield {
-                domain: value(domain),
-                count: value(k),
-            };
-        }
+    let n = read_numbers(rest, 2, 4);
+    if n.written {
+        return Line::Yield {
+            domain: n.first,
+            count: n.second,
+        };
     }
     Line::Bad(41)
 }

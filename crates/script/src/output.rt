@@ -3,7 +3,7 @@ ghost use mathlib.Core.Path.{_≡_};
 ghost use Rattle.script.specs.Text.{decimal, field};
 ghost use Rattle.script.specs.Output.{output, putByte, put};
 
-pub(crate) fn put_byte(out: &mut [u8], at: usize, b: u8) -> usize
+pub fn put_byte(out: &mut [u8], at: usize, b: u8) -> usize
     ensures { λ r. ⌜ output (now (out .exit)) r ≡ putByte (output (now (out .entry)) at) b ⌝ }
 {
     if at < out.len() {
@@ -14,7 +14,7 @@ pub(crate) fn put_byte(out: &mut [u8], at: usize, b: u8) -> usize
     }
 }
 
-pub(crate) fn put_bytes(out: &mut [u8], at: usize, text: &[u8]) -> usize
+pub fn put_bytes(out: &mut [u8], at: usize, text: &[u8]) -> usize
     ensures { λ r. ⌜ output (now (out .exit)) r ≡ put (output (now (out .entry)) at) (now (text .entry)) ⌝ }
 {
     let mut n = at;
@@ -27,7 +27,7 @@ pub(crate) fn put_bytes(out: &mut [u8], at: usize, text: &[u8]) -> usize
 }
 
 // A number in decimal digits. Most are below 10.
-pub(crate) fn put_number(out: &mut [u8], at: usize, n: u64) -> usize
+pub fn put_number(out: &mut [u8], at: usize, n: u64) -> usize
     ensures { λ r. ⌜ output (now (out .exit)) r ≡ put (output (now (out .entry)) at) (decimal n) ⌝ }
 {
     if n < 10 {
@@ -39,7 +39,7 @@ pub(crate) fn put_number(out: &mut [u8], at: usize, n: u64) -> usize
 }
 
 // A number behind a byte.
-pub(crate) fn put_field(out: &mut [u8], at: usize, mark: u8, n: u64) -> usize
+pub fn put_field(out: &mut [u8], at: usize, mark: u8, n: u64) -> usize
     ensures { λ r. ⌜ output (now (out .exit)) r ≡ put (output (now (out .entry)) at) (field mark n) ⌝ }
 {
     let next = put_byte(out, at, mark);

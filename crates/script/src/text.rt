@@ -115,7 +115,7 @@ fn put_refused(out: &mut [u8], at: usize, words: &[u8], n: u64, more: &[u8], m: 
     put_byte(out, d, b'\n')
 }
 
-pub(crate) fn put_plan_refused(out: &mut [u8], at: usize, number: u8, place: u16) -> usize
+pub fn put_plan_refused(out: &mut [u8], at: usize, number: u8, place: u16) -> usize
     ensures { λ r. ⌜ output (now (out .exit)) r ≡ put (output (now (out .entry)) at) (planRefusedText number place) ⌝ }
 {
     put_refused(

@@ -57,6 +57,10 @@ bad-number line = go (begins 115 line) (begins 121 line) (isSlot (drop 2 line)) 
     go false true c false = refl
     go false false c d = refl
 
+pub bad-line : (line : List ℕ) (n : ℕ) → meaningOf line ≡ badLine n → n ≡ 41
+unfolding badNumber
+bad-line line n e = sym (ap badNumber e) ∙ bad-number line
+
 -- what a line that is taken keeps: the state adds up, and one more line is counted for
 pub record Taken (s t : State) : Type 0 where
   pub adds : addsUp t ≡ true

@@ -33,7 +33,7 @@ use Rattle.script.specs.declared.feeding.Run.{Run}
 use Rattle.script.specs.declared.carrying.Step.{Step}
 use Rattle.script.proofs.Laws.Lengths.{header-long, plan-refused-long, line-refused-long}
 use Rattle.script.proofs.Laws.Putting.{put-none, put-put, put-next, put-count, put-length}
-use Rattle.script.proofs.Laws.Splitting.{split-line, split-none, text-line, text-refused, text-end, text-last, text-long, bad-refused}
+use Rattle.script.proofs.Laws.Splitting.{split-none, lineIn, Ending, byTen, byLength, ending, split-front, split-long, text-line, text-refused, text-end, text-last, text-long, bad-refused}
 use Rattle.script.proofs.Laws.Carrying.{line-taken, refused-silent, prints-short}
 
 module _ (r : Run) (script : List ℕ) where
@@ -88,48 +88,10 @@ fed-then part room r b q c w d f g =
 module _ (r : Run) (part : List ℕ) (end : ℕ) (ends : LineEnd part (r .used) end) (shut : openEnd (r .used) end (length part) ≡ false)
     (live : r .refused ≡ 0) where
   abbrev line : List ℕ
-  line = take (end - r .used) (drop (r .used) part)
+  line = lineIn part (r .used) end
 
   abbrev done : Done
   done = carriedOut (r .state) (meaningOf line)
-
-  line-length : length line ≡ end - r .used
-  line-length = length-take-le (end - r .used) (drop (r .used) part) (omega (arith, length-drop (r .used) part, ends .high))
-
-  -- it ends at a byte 10, or it is too long
-  data Ending : Type 0 where
-    byTen : end < length part → nth part end ≡ 10 → Ending
-    byLength : 20 ≤ length line → Ending
-
-  ending : Ending
-  ending = go (ends .stop)
-    where
-      go : Stop part (r .used) end → Ending
-      go (atTen h e) = byTen h e
-      go (tooLong e) = byLength (omega (arith, line-length))
-      go (atEnd e) = byLength (by (ltb (end - r .used) 20) refl)
-        where
-          by : (t : Bool) → ltb (end - r .used) 20 ≡ t → 20 ≤ length line
-          by true q = absurd (false≢true (sym shut ∙ both (eq-eqb end (length part) e) q))
-          by false q = omega (arith, line-length, ltb-false (end - r .used) 20 q)
-
-  -- what is left of the part, from the line on
-  front : drop (r .used) part ≡ line ++ drop end part
-  front =
-      let k : r .used + (end - r .used) ≡ end = omega (arith, ends .low) in
-      sym (take-append-drop (end - r .used) (drop (r .used) part))
-      ∙ ap (λ (l : List ℕ). take (end - r .used) (drop (r .used) part) ++ l) (drop-drop (end - r .used) (r .used) part ∙ ap (λ (n : ℕ). drop n part) k)
-
-  cut : end < length part → nth part end ≡ 10 → drop end part ≡ 10 ∷ drop (end + 1) part
-  cut h e = drop-cons part end 0 h ∙ ap₂ (λ (b : ℕ) (n : ℕ). b ∷ drop n part) e (sym (add-one end))
-
-  -- the line, and what follows it
-  split-front : end < length part → nth part end ≡ 10 → (later : List ℕ)
-      → split (drop (r .used) part ++ later)
-      ≡ record { lines = line ∷ split (drop (end + 1) part ++ later) .lines; last = split (drop (end + 1) part ++ later) .last }
-  split-front h e later =
-      ap split (ap (λ (l : List ℕ). l ++ later) (front ∙ ap (λ (l : List ℕ). line ++ l) (cut h e)) ∙ append-assoc line (10 ∷ drop (end + 1) part) later)
-      ∙ split-line line (drop (end + 1) part ++ later) (ends .clear)
 
   abbrev text-of : List ℕ → List ℕ
   text-of later = restText r (drop (r .used) part ++ later)
@@ -142,9 +104,9 @@ module _ (r : Run) (part : List ℕ) (end : ℕ) (ends : LineEnd part (r .used) 
   long-refused h = bad-refused (r .state) (r .line) line h
 
   taken-ten : done .refused ≡ 0 → (end < length part) × (nth part end ≡ 10)
-  taken-ten e = go ending
+  taken-ten e = go (ending part (r .used) end ends shut)
     where
-      go : Ending → (end < length part) × (nth part end ≡ 10)
+      go : Ending part (r .used) end → (end < length part) × (nth part end ≡ 10)
       go (byTen h q) = (h, q)
       go (byLength h) = absurd (omega (arith, long-refused h))
 
@@ -153,18 +115,16 @@ module _ (r : Run) (part : List ℕ) (end : ℕ) (ends : LineEnd part (r .used) 
       ≡ done .prints ++ linesText (done .state) (r .line + 1) (split (drop (end + 1) part ++ later) .lines) (split (drop (end + 1) part ++ later) .last)
   text-taken e later =
       let t = taken-ten e in
-      text-split later _ (split-front (t .0) (t .1) later) ∙ text-line (r .state) (r .line) line _ _ e
+      text-split later _ (split-front part (r .used) end ends (t .0) (t .1) later) ∙ text-line (r .state) (r .line) line _ _ e
 
   text-over : done .refused ≢ 0 → (later : List ℕ) → text-of later ≡ lineRefusedText (r .line) (done .refused)
-  text-over e later = go ending
+  text-over e later = go (ending part (r .used) end ends shut)
     where
-      go : Ending → text-of later ≡ lineRefusedText (r .line) (done .refused)
-      go (byTen h q) = text-split later _ (split-front h q later) ∙ text-refused (r .state) (r .line) line _ _ e
+      go : Ending part (r .used) end → text-of later ≡ lineRefusedText (r .line) (done .refused)
+      go (byTen h q) = text-split later _ (split-front part (r .used) end ends h q later) ∙ text-refused (r .state) (r .line) line _ _ e
       go (byLength h) =
           rest-on r (drop (r .used) part ++ later) live
-          ∙ ap (λ (l : List ℕ). linesText (r .state) (r .line) (split l .lines) (split l .last))
-          (ap (λ (l : List ℕ). l ++ later) front ∙ append-assoc line (drop end part) later)
-          ∙ text-long (r .state) (r .line) line (drop end part ++ later) (ends .clear) h
+          ∙ text-long (r .state) (r .line) _ (split-long part (r .used) end ends h later) h
           ∙ ap (lineRefusedText (r .line)) (sym (long-refused h))
 
   -- A line that was taken, and lost nothing of what it prints, takes the run on.

@@ -2,7 +2,7 @@
 -- Assumes nothing.
 use mathlib.Core.Path.{_≡_, refl, sym, ap, ap₂, _∙_}
 use mathlib.Core.Logic.{_≢_}
-use mathlib.Core.Bool.{Bool, true, false, cond, _&&_, and-false}
+use mathlib.Core.Bool.{Bool, true, false, cond, _&&_, and-false, false≢true}
 use mathlib.Core.List.{List, [], _∷_, _++_, append-nil}
 use Prim.Native.Nat.{ℕ, _+_, _-_, _*_, _≤_, _<_}
 use native.Mathlib.Numerals.{add-one}
@@ -13,8 +13,9 @@ use lib.Seq.{drop-cons, take-suc, take-suc-set, append-snoc, take-all}
 use borrow.Author.Tests.{leb-true, eq-eqb, ne-eqb}
 use Rattle.table.specs.Sums.{nth}
 use Rattle.table.proofs.Tables.{miss, hit, both, and-both}
-use Rattle.script.specs.Line.{isDigit, digitsOnly, isNumber, valueFrom, before, behind, slotLine, yieldLine, badLine, isSlot, offersOf, slotMeaning, isYield, yieldMeaning, begins, meaningOf, offersIn}
-use Rattle.script.specs.Inner.{Space}
+use Rattle.script.specs.Line.{isDigit, digitsOnly, isNumber, valueFrom, valueOf, before, behind, slotLine, yieldLine, badLine, isSlot, offersOf, slotMeaning, isYield, yieldMeaning, begins, meaningOf, offersIn}
+use Rattle.script.specs.Inner.{Space, numbersIn}
+use Rattle.script.specs.declared.line.Numbers.{Numbers}
 
 pub digit-least : (b : ℕ) → isDigit b ≡ true → (48 ≤ b) × (b ≤ 57)
 unfolding isDigit
@@ -92,12 +93,38 @@ pub none-no-number : (most : ℕ) → isNumber most [] ≡ false
 unfolding isNumber
 none-no-number most = refl
 
--- What a yield line means: by its two numbers, or where one is none.
+-- Two numbers that are written, and one that is not.
+module _ (most more : ℕ) (l : List ℕ) where
+  pub numbers-written : isNumber most (before l) ≡ true → isNumber more (behind l) ≡ true
+      → numbersIn most more l ≡ record { written = true; first = valueOf (before l); second = valueOf (behind l) }
+  unfolding numbersIn
+  numbers-written a b = hit _ _ _ (both a b)
+
+  pub numbers-no-first : isNumber most (before l) ≡ false → numbersIn most more l ≡ record { written = false; first = 0; second = 0 }
+  unfolding numbersIn
+  numbers-no-first a = miss _ _ _ (ap (λ (t : Bool). t && isNumber more (behind l)) a)
+
+  pub numbers-no-second : isNumber more (behind l) ≡ false → numbersIn most more l ≡ record { written = false; first = 0; second = 0 }
+  unfolding numbersIn
+  numbers-no-second a = miss _ _ _ (ap (λ (t : Bool). isNumber most (before l) && t) a ∙ and-false (isNumber most (before l)))
+
+-- What a yield line means: its two numbers, or where one is none.
 module _ (l : List ℕ) where
-  pub yield-good : isNumber 2 (before l) ≡ true → isNumber 4 (behind l) ≡ true
-      → yieldMeaning l ≡ yieldLine (valueFrom 0 (before l)) (valueFrom 0 (behind l))
-  unfolding yieldMeaning isYield
-  yield-good a b = hit _ _ _ (both a b)
+  pub yield-read : (n : Numbers) → n ≡ numbersIn 2 4 l → n .written ≡ true → yieldMeaning l ≡ yieldLine (n .first) (n .second)
+  unfolding yieldMeaning isYield numbersIn
+  yield-read n e w = go (isNumber 2 (before l) && isNumber 4 (behind l)) refl
+    where
+      go : (b : Bool) → (isNumber 2 (before l) && isNumber 4 (behind l)) ≡ b → yieldMeaning l ≡ yieldLine (n .first) (n .second)
+      go true q = hit _ _ _ q ∙ ap (λ (m : Numbers). yieldLine (m .first) (m .second)) (sym (e ∙ hit _ _ _ q))
+      go false q = absurd (false≢true (sym (ap (λ (m : Numbers). m .written) (e ∙ miss _ _ _ q)) ∙ w))
+
+  pub yield-unread : (n : Numbers) → n ≡ numbersIn 2 4 l → n .written ≡ false → yieldMeaning l ≡ badLine 41
+  unfolding yieldMeaning isYield numbersIn
+  yield-unread n e w = go (isNumber 2 (before l) && isNumber 4 (behind l)) refl
+    where
+      go : (b : Bool) → (isNumber 2 (before l) && isNumber 4 (behind l)) ≡ b → yieldMeaning l ≡ badLine 41
+      go true q = absurd (false≢true (sym w ∙ ap (λ (m : Numbers). m .written) (e ∙ hit _ _ _ q)))
+      go false q = miss _ _ _ q
 
   pub yield-bad-domain : isNumber 2 (before l) ≡ false → yieldMeaning l ≡ badLine 41
   unfolding yieldMeaning isYield

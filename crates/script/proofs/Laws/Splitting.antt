@@ -1,23 +1,25 @@
 -- Laws of a script's lines: the first line and what follows it, a script without a byte 10, and a first line that is too long.
 -- Assumes nothing.
-use mathlib.Core.Path.{_≡_, refl, ap, _∙_}
+use mathlib.Core.Path.{_≡_, refl, sym, ap, ap₂, subst, _∙_}
 use mathlib.Core.Logic.{_≢_}
-use mathlib.Core.Bool.{true, not}
-use mathlib.Core.List.{List, [], _∷_, _++_}
+use mathlib.Core.Bool.{Bool, true, false, not, false≢true}
+use mathlib.Core.List.{List, [], _∷_, _++_, append-assoc}
 use Prim.Native.Nat.{ℕ, suc, _+_, _-_, _≤_, _<_}
+use native.Mathlib.Numerals.{add-one}
 use native.Mathlib.Omega.{arith}
-use lib.Dec.{eqb}
-use lib.ListN.{length, take, drop, length-drop}
-use lib.Seq.{take-suc, getD-drop}
-use borrow.Author.Tests.{not-true, eq-eqb, ne-eqb}
+use lib.Dec.{eqb, ltb}
+use lib.ListN.{length, take, drop, length-drop, take-append-drop}
+use lib.Seq.{take-suc, getD-drop, drop-cons, drop-drop, length-take-le}
+use borrow.Author.Tests.{not-true, ltb-false, eq-eqb, ne-eqb}
 use Rattle.table.specs.Sums.{nth}
-use Rattle.table.proofs.Tables.{miss, hit, neg′}
+use Rattle.table.proofs.Tables.{miss, hit, both, neg′}
 use Rattle.table.proofs.Members.{each-first, each-snoc}
 use Rattle.regulator.specs.declared.state.State.{State}
 use Rattle.script.specs.Line.{Meaning, meaningOf}
 use Rattle.script.specs.Text.{openText, lineRefusedText}
 use Rattle.script.specs.Replay.{Script, ahead, split, carriedOut, linesText}
 use Rattle.script.specs.Feeding.{unended}
+use Rattle.script.specs.Inner.{Stop, atTen, tooLong, atEnd, LineEnd, openEnd}
 use Rattle.script.proofs.Laws.Reading.{line-long}
 
 -- a byte 10 ends a line; any other byte belongs to the line or the last part that it stands before
@@ -49,7 +51,7 @@ split-none (b ∷ l) e =
     split-other b l (c .0) ∙ ap (λ (s : Script). ahead b (s .lines) (s .last)) (split-none l (c .1))
 
 -- Bytes without a byte 10 in front: they are in the first line, or in the last part where there is no line.
-data FirstLong (n : ℕ) : Script → Type 0 where
+pub data FirstLong (n : ℕ) : Script → Type 0 where
   inLine : (line : List ℕ) (lines : List (List ℕ)) (last : List ℕ) → n ≤ length line → FirstLong n (record { lines = line ∷ lines; last = last })
   inLast : (last : List ℕ) → n ≤ length last → FirstLong n (record { lines = []; last = last })
 
@@ -66,6 +68,57 @@ first-long [] more e = long-none (split more .lines) (split more .last)
 first-long (b ∷ front) more e =
     let c = each-first (λ (x : ℕ). not (eqb x 10)) b front e in
     rw (split-other b (front ++ more) (c .0)) (long-more b (length front) (split (front ++ more)) (first-long front more (c .1)))
+
+-- The line of a part from `used` to its end, as a search for the end found it.
+abbrev pub lineIn : (part : List ℕ) (used end : ℕ) → List ℕ
+lineIn part used end = take (end - used) (drop used part)
+
+-- it ends at a byte 10, or it is too long
+pub data Ending (part : List ℕ) (used end : ℕ) : Type 0 where
+  byTen : end < length part → nth part end ≡ 10 → Ending part used end
+  byLength : 20 ≤ length (lineIn part used end) → Ending part used end
+
+module _ (part : List ℕ) (used end : ℕ) (ends : LineEnd part used end) where
+  abbrev line : List ℕ
+  line = lineIn part used end
+
+  line-length : length line ≡ end - used
+  line-length = length-take-le (end - used) (drop used part) (omega (arith, length-drop used part, ends .high))
+
+  pub ending : openEnd used end (length part) ≡ false → Ending part used end
+  ending shut = go (ends .stop)
+    where
+      go : Stop part used end → Ending part used end
+      go (atTen h e) = byTen h e
+      go (tooLong e) = byLength (omega (arith, line-length))
+      go (atEnd e) = byLength (by (ltb (end - used) 20) refl)
+        where
+          by : (t : Bool) → ltb (end - used) 20 ≡ t → 20 ≤ length line
+          by true q = absurd (false≢true (sym shut ∙ both (eq-eqb end (length part) e) q))
+          by false q = omega (arith, line-length, ltb-false (end - used) 20 q)
+
+  -- what is left of the part, from the line on
+  front : drop used part ≡ line ++ drop end part
+  front =
+      let k : used + (end - used) ≡ end = omega (arith, ends .low) in
+      sym (take-append-drop (end - used) (drop used part))
+      ∙ ap (λ (l : List ℕ). take (end - used) (drop used part) ++ l) (drop-drop (end - used) used part ∙ ap (λ (n : ℕ). drop n part) k)
+
+  cut : end < length part → nth part end ≡ 10 → drop end part ≡ 10 ∷ drop (end + 1) part
+  cut h e = drop-cons part end 0 h ∙ ap₂ (λ (b : ℕ) (n : ℕ). b ∷ drop n part) e (sym (add-one end))
+
+  -- the line, and what follows it; or a first line that is too long, whatever follows
+  pub split-front : end < length part → nth part end ≡ 10 → (later : List ℕ)
+      → split (drop used part ++ later)
+      ≡ record { lines = line ∷ split (drop (end + 1) part ++ later) .lines; last = split (drop (end + 1) part ++ later) .last }
+  split-front h e later =
+      ap split (ap (λ (l : List ℕ). l ++ later) (front ∙ ap (λ (l : List ℕ). line ++ l) (cut h e)) ∙ append-assoc line (10 ∷ drop (end + 1) part) later)
+      ∙ split-line line (drop (end + 1) part ++ later) (ends .clear)
+
+  pub split-long : 20 ≤ length line → (later : List ℕ) → FirstLong (length line) (split (drop used part ++ later))
+  split-long h later =
+      subst (λ (l : List ℕ). FirstLong (length line) (split l)) (sym (ap (λ (l : List ℕ). l ++ later) front ∙ append-assoc line (drop end part) later))
+      (first-long line (drop end part ++ later) (ends .clear))
 
 -- what is printed for a line, and at the end of the script
 module _ (s : State) (L : ℕ) where
@@ -91,16 +144,12 @@ module _ (s : State) (L : ℕ) where
   unfolding carriedOut
   bad-refused line h = ap (λ (m : Meaning). carriedOut s m .refused) (line-long line h)
 
-  -- a first line that is too long is refused, whatever follows
-  pub text-long : (front more : List ℕ) → unended front ≡ true → 20 ≤ length front
-      → linesText s L (split (front ++ more) .lines) (split (front ++ more) .last) ≡ lineRefusedText L 41
-  text-long front more e h = go (split (front ++ more)) (first-long front more e)
-    where
-      go : (x : Script) → FirstLong (length front) x → linesText s L (x .lines) (x .last) ≡ lineRefusedText L 41
-      go x (inLine line lines last g) =
-          let n = bad-refused line (omega arith) in
-          text-refused line lines last (λ z. omega (arith, n)) ∙ ap (lineRefusedText L) n
-      go x (inLast last g) = text-last last (omega arith)
+  -- a first line that is too long is refused
+  pub text-long : (n : ℕ) {x : Script} → FirstLong n x → 20 ≤ n → linesText s L (x .lines) (x .last) ≡ lineRefusedText L 41
+  text-long n (inLine line lines last g) h =
+      let m = bad-refused line (omega arith) in
+      text-refused line lines last (λ z. omega (arith, m)) ∙ ap (lineRefusedText L) m
+  text-long n (inLast last g) h = text-last last (omega arith)
 
 -- the search for a line's end, one byte on
 pub scan-more : (part : List ℕ) (from i : ℕ) → from ≤ i → i < length part → nth part i ≢ 10

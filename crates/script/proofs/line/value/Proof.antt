@@ -15,11 +15,9 @@ use borrow.Author.Needs.{needs}
 use Rattle.script.proofs.line.value.Statement.{statement}
 use Rattle.script.proofs.line.value.Tie as tie
 
-few-digits : (i : ℕ) → i ≤ 3 → 10 ^ i ≤ 1000
-few-digits zero h = omega arith
-few-digits (suc zero) h = omega arith
-few-digits (suc (suc zero)) h = omega arith
-few-digits (suc (suc (suc i))) h = let z : i ≡ 0 = omega arith in rw z (omega arith)
+few-digits : (left i : ℕ) → i + left ≡ 8 → 10 ^ i ≤ 100000000
+few-digits zero i e = let z : i ≡ 8 = omega arith in rw z (omega arith)
+few-digits (suc left) i e = let h : 10 ^ (suc i) ≤ 100000000 = few-digits left (suc i) (omega arith) in omega (arith, h)
 
 abbrev Inv-loop : tie.InvT-loop
 Inv-loop part n₀ i₀ n i = (i ≤ length part) × (digitsOnly (drop i part) ≡ true) × (n < 10 ^ i) × (valueFrom n (drop i part) ≡ valueOf part)
@@ -30,7 +28,7 @@ abbrev μ-loop : tie.MeasureT-loop
 loop-holds : tie.Need-loop-holds Inv-loop μ-loop
 loop-holds c = (search needs, search needs, omega arith, refl)
 
-short : (c : tie.Start Inv-loop μ-loop) → length (c .args .part .now) ≤ 4
+short : (c : tie.Start Inv-loop μ-loop) → length (c .args .part .now) ≤ 9
 short c = search needs
 
 digit : (c : tie.In-loop Inv-loop μ-loop) → (let b = c .before in let l = b .before .before .args .part .now in
@@ -40,10 +38,10 @@ digit c =
     let l = b .before .before .args .part .now in
     and-both (isDigit (getD l (b .loop .i) 0)) (digitsOnly (drop (b .loop .i + 1) l)) (sym (each-from isDigit l (b .loop .i) (c .loop-test .taken)) ∙ b .loop .inv .1)
 
-low : (c : tie.In-loop Inv-loop μ-loop) → c .before .loop .n < 1000
+low : (c : tie.In-loop Inv-loop μ-loop) → c .before .loop .n < 100000000
 low c =
     let b = c .before in
-    omega (arith, few-digits (b .loop .i) (omega (arith, short (b .before .before), c .loop-test .taken)), b .loop .inv .2)
+    omega (arith, few-digits (8 - b .loop .i) (b .loop .i) (omega (arith, short (b .before .before), c .loop-test .taken)), b .loop .inv .2)
 
 mul-n : tie.Need-mul-n Inv-loop μ-loop
 mul-n c = omega (arith, low c)

@@ -1,0 +1,1 @@
+-- The laws of questions, by topic.

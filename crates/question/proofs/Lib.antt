@@ -1,0 +1,2 @@
+-- What is proved of questions beside the functions.
+pub mod Laws
