@@ -1,1 +1,4 @@
 -- The laws of questions, by topic.
+pub mod Slots
+pub mod Answers
+pub mod Searching

@@ -1,11 +1,12 @@
 -- The line that is printed (document 02, Point 2): "It prints one line, the verdict and its true cause, with single spaces."
 -- Assumes nothing.
-use Prim.Native.Nat.{ℕ, _+_}
+use Prim.Native.Nat.{ℕ}
 use Prim.Native.Char.{code}
 use mathlib.Core.List.{List, [], _∷_, _++_}
 use mathlib.Core.Bool.{cond}
 use lib.Dec.{eqb}
-use lib.IntN.{ℤ, pos, negsuc}
+use lib.IntN.{ℤ, pos, natAbs}
+use lib.Signed.{ltZ}
 use Rattle.plan.specs.Reading.{readPlan}
 use Rattle.regulator.specs.Calls.{openPlan}
 use Rattle.cause.specs.Cause.{Word, ofClaim, ofStock, ofNeither, Cause, none, word, number, cap, totals, looseAnd, verdictOf, causeOf}
@@ -15,10 +16,9 @@ use Rattle.script.specs.Replay.{split}
 use Rattle.question.specs.Ask.{Question, asks, malformed, questionOf}
 use Rattle.question.specs.Slots.{Decided, decidedBy, Found, undecided, decided, slotAt}
 
--- a signed number: below zero its size behind the sign (`negsuc n` is −(n + 1))
-abbrev pub signed : ℤ → List ℕ
-signed (pos n) = decimal n
-signed (negsuc n) = field (code "-") (n + 1)
+-- a signed number: its size, below zero behind the sign
+unfoldable pub signed : ℤ → List ℕ
+signed z = cond (ltZ z (pos 0)) (field (code "-") (natAbs z)) (decimal (natAbs z))
 
 abbrev pub wordText : Word → List ℕ
 wordText ofClaim = bytes "claim"

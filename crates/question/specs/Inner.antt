@@ -3,6 +3,7 @@
 use Prim.Native.Nat.{ℕ, _-_}
 use mathlib.Core.List.{List}
 use mathlib.Core.Bool.{cond}
+use lib.ListN.{replicate}
 use lib.Dec.{eqb}
 use Rattle.regulator.specs.Calls.{slotOf, yieldOf}
 use Rattle.regulator.specs.declared.state.State.{State}
@@ -11,13 +12,21 @@ use Rattle.question.specs.Ask.{Question, asks, malformed}
 use Rattle.question.specs.declared.ask.Asked.{Asked}
 use Rattle.question.specs.declared.ask.Asked.the-variants.{Slot, Malformed}
 use Rattle.question.specs.declared.seeking.Stage.{Stage}
-use Rattle.question.specs.declared.seeking.Stage.the-variants.{Seeking, Found, AskRefused}
+use Rattle.question.specs.declared.seeking.Stage.the-variants.{Seeking, Found, AskRefused, PlanRefused}
 use Rattle.question.specs.declared.seeking.Search.{Search}
 
 -- the document's words for each case of the reader's enum
 abbrev pub askedBy : Asked → Question
 askedBy (Slot slot number) = asks slot number
 askedBy Malformed = malformed
+
+-- The stage before the first line: the refusal of the plan, then slot 0, which no script decides.
+unfoldable pub firstStage : (slot refused place : ℕ) → Stage
+firstStage slot refused place = cond (eqb refused 0) (cond (eqb slot 0) (AskRefused 61) Seeking) (PlanRefused refused place)
+
+-- the search before the first line
+abbrev pub begun : Stage → State → (slot number : ℕ) → Search
+begun stage s slot number = record { stage = stage; state = s; offers = replicate 17 0; left = slot; number = number; used = 0 }
 
 -- a search that ended with a refusal, one that found its slot, and one that goes on behind a line
 abbrev pub over : Search → Stage → Search

@@ -16,12 +16,18 @@ use Rattle.question.specs.declared.seeking.Stage.{Stage}
 use Rattle.question.specs.declared.seeking.Stage.the-variants.{Seeking, Found, AskRefused, PlanRefused}
 use Rattle.question.specs.declared.seeking.Search.{Search}
 
--- the slot is still to be found
+-- the slot is still to be found, and it is found
 abbrev pub goesOn : Stage → Bool
 goesOn Seeking = true
 goesOn Found = false
 goesOn (AskRefused number) = false
 goesOn (PlanRefused number place) = false
+
+abbrev pub isFound : Stage → Bool
+isFound Seeking = false
+isFound Found = true
+isFound (AskRefused number) = false
+isFound (PlanRefused number place) = false
 
 -- What is told for the rest of a script, at each stage of a search: it goes on; the slot is found; or it ended with a refusal.
 abbrev pub stageText : Stage → Search → (rest : List ℕ) → List ℕ
@@ -38,7 +44,7 @@ answerText q rest = stageText (q .stage) q rest
 pub record Sound (q : Search) : Type 0 where
   pub adds : goesOn (q .stage) ≡ true → addsUp (q .state) ≡ true
   pub some : goesOn (q .stage) ≡ true → 1 ≤ q .left
-  pub found : q .stage ≡ Found → slotRefusal (q .state) (q .offers) 17 ≡ 0
+  pub found : isFound (q .stage) ≡ true → slotRefusal (q .state) (q .offers) 17 ≡ 0
 
 -- From the search q to the search r by lines of a part of the script: whatever bytes follow this part, what is told stays the same.
 pub record Sought (part : List ℕ) (q r : Search) : Type 0 where
