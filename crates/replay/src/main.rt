@@ -1,8 +1,7 @@
 // The replay: reads the file `plan` and a script on standard input, and prints the periods.
 ghost use mathlib.Core.Path.{_≡_};
-ghost use Prim.Native.Nat.{_-_, _≤_};
-ghost use lib.ListN.{length, take, drop};
-ghost use Rattle.io.specs.Counts.{Counts};
+ghost use lib.ListN.{length};
+ghost use Rattle.parts.specs.Input.{Kept};
 ghost use Rattle.replay.specs.Buffers.{Within};
 use script::Run;
 
@@ -18,19 +17,6 @@ struct Stream {
     failed: bool,
 }
 
-// The bytes of the file `plan`, or as many as show that it is too long. A file that cannot be opened or read counts as missing.
-fn read_plan(buffer: &mut [u8]) -> usize
-    ensures { λ r. ⌜ Counts r (now (buffer .exit)) ⌝ }
-{
-    let fd = os::open_read(b"plan");
-    if fd < 0 {
-        return 0;
-    }
-    let n = io::read_full(fd, buffer);
-    libc::close(fd);
-    n
-}
-
 // The run, with other places in the two buffers.
 fn placed(r: Run, used: usize, at: usize) -> Run
     ensures { λ q. ⌜ q ≡ record { state = r .state; line = r .line; refused = r .refused; used = used; at = at } ⌝ }
@@ -41,36 +27,19 @@ fn placed(r: Run, used: usize, at: usize) -> Run
     q
 }
 
-// Moves the bytes from `from` to `to` to the front.
-fn move_down(buffer: &mut [u8], from: usize, to: usize)
-    requires { ⌜ from ≤ to ⌝ }
-    requires { ⌜ to ≤ length (now buffer) ⌝ }
-    ensures { λ _. ⌜ take (to - from) (now (buffer .exit)) ≡ take (to - from) (drop from (now (buffer .entry))) ⌝ }
-{
-    let mut i = from;
-    while i < to {
-        buffer[i - from] = buffer[i];
-        i += 1;
-    }
-}
-
 // Keeps what is left of the part, and reads more of the script behind it.
 fn read_more(r: Run, text: &mut [u8], filled: usize, out_room: usize) -> Stream
     requires { ⌜ Within r filled (length (now text)) «out_room» ⌝ }
     ensures within { λ s. ⌜ Within (s .run) (s .filled) (length (now (text .exit))) «out_room» ⌝ }
-    ensures kept { λ s. ⌜ take (filled - r .used) (now (text .exit)) ≡ take (filled - r .used) (drop (r .used) (now (text .entry))) ⌝ }
+    ensures kept { λ s. ⌜ Kept (r .used) filled (now (text .entry)) (now (text .exit)) ⌝ }
 {
-    let used = r.used;
-    let left = filled - used;
-    move_down(text, used, filled);
+    let part = parts::refill(text, r.used, filled);
     let run = placed(r, 0, r.at);
-    let got = libc::read(0, &mut text[left..]);
-    let n = io::count(got, &text[left..]);
     Stream {
         run,
-        filled: left + n,
-        more: n != 0,
-        failed: got < 0,
+        filled: part.filled,
+        more: part.more,
+        failed: part.failed,
     }
 }
 
@@ -161,7 +130,7 @@ fn conclude(s: Stream, text: &[u8], out: &mut [u8])
 
 fn main() {
     let mut plan = [0u8; 1040];
-    let n = read_plan(&mut plan);
+    let n = parts::read_file(b"plan", &mut plan);
     let mut text = io::large_buffer();
     let mut out = io::large_buffer();
     let run = script::start(&plan[..n], &mut out);

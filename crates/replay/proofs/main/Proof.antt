@@ -6,11 +6,14 @@ use borrow.Author.Needs.{needs}
 use Rattle.replay.proofs.main.Statement.{statement}
 use Rattle.replay.proofs.main.Tie as tie
 
-slice-aggregate-read-plan : tie.Need-slice-aggregate-read-plan
-slice-aggregate-read-plan c = search needs
+slice-aggregate-read-file : tie.Need-slice-aggregate-read-file
+slice-aggregate-read-file c = search needs
 
-read-plan-requires : tie.Need-read-plan-requires
-read-plan-requires c κs = search needs
+slice-aggregate-read-file-2 : tie.Need-slice-aggregate-read-file-2
+slice-aggregate-read-file-2 c = search needs
+
+read-file-requires : tie.Need-read-file-requires
+read-file-requires c κs = search needs
 
 large-buffer-requires : tie.Need-large-buffer-requires
 large-buffer-requires c κs = search needs
@@ -63,8 +66,9 @@ pub main-spec : {M : Type 1} → statement M
 main-spec =
     tie.close
     (tie.spec
-    slice-aggregate-read-plan
-    read-plan-requires
+    slice-aggregate-read-file
+    slice-aggregate-read-file-2
+    read-file-requires
     large-buffer-requires
     large-buffer-requires-2
     array-share-prefix-plan

@@ -1,14 +1,14 @@
--- `replay::move_down` meets its contract.
+-- `parts::input::move_down` meets its contract.
 -- Assumes nothing.
 use mathlib.Core.Path.{_≡_}
 use denote.Ref.{now}
 use Prim.Native.Nat.{_-_, _≤_}
 use native.Mathlib.Omega.{arith}
 use lib.ListN.{length}
-use Rattle.replay.proofs.Laws.Moving.{Moving, moving-none, moving-more}
+use Rattle.parts.proofs.Laws.Moving.{Moving, moving-none, moving-more}
 use borrow.Author.Needs.{needs}
-use Rattle.replay.proofs.move_down.Statement.{statement}
-use Rattle.replay.proofs.move_down.Tie as tie
+use Rattle.parts.proofs.input.move_down.Statement.{statement}
+use Rattle.parts.proofs.input.move_down.Tie as tie
 
 abbrev Inv-loop : tie.InvT-loop
 Inv-loop buffer₀ from to i₀ buffer i = (from ≤ i) × (i ≤ to) × Moving buffer₀ from i buffer

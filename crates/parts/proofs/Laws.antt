@@ -1,0 +1,2 @@
+-- The laws of moved bytes.
+pub mod Moving

@@ -1,0 +1,2 @@
+-- What is proved of moved bytes beside the functions.
+pub mod Laws

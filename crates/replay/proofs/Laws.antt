@@ -1,2 +1,0 @@
--- The laws of the program.
-pub mod Moving

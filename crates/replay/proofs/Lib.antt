@@ -1,2 +1,0 @@
--- What is proved of the program beside its functions.
-pub mod Laws

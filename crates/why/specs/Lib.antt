@@ -1,0 +1,2 @@
+-- What the program's functions promise of the script that they read.
+pub mod Buffers
