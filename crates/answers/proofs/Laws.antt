@@ -1,0 +1,2 @@
+-- The answers, computed.
+pub mod Answers

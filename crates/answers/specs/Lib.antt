@@ -1,0 +1,2 @@
+-- Questions with their answers.
+pub mod Questions
