@@ -42,7 +42,10 @@ fn is_seeking(stage: Stage) -> bool
         Stage::Seeking => true,
         Stage::Found => false,
         Stage::AskRefused(_) => false,
-        Stage::PlanRefused { number: _, place: _ } => false,
+        Stage::PlanRefused {
+            number: _,
+            place: _,
+        } => false,
     }
 }
 

@@ -57,8 +57,8 @@ module _ (s : State) (o : List ℕ) (e : slotRefusal s o 17 ≡ 0) where
       let claim = el ∙ ap (λ (i : ℕ). claimOf (nth o n) (nth (s .claim) i) (nth (s .writebackclaim) i)) ej in
       let given = eg ∙ ap (λ (w : List ℕ). lowest (λ (m : ℕ). eqb (nth w m) 1) 17) q ∙ one-granted s o (whole .balanced .turn) in
       λ i.
-          causeFrom (nth (q i) n) (wordFor (eqb n 0) (ltb 0 (claim i)) (eqb (nth o n) 2)) (given i) (nth (s .plan .writebackcap) (ej i))
-          (nth (s .plan .reclaimcap) (ej i)) (ey i) (er i) (ez i) (ek i + 1)
+      causeFrom (nth (q i) n) (wordFor (eqb n 0) (ltb 0 (claim i)) (eqb (nth o n) 2)) (given i) (nth (s .plan .writebackcap) (ej i))
+      (nth (s .plan .reclaimcap) (ej i)) (ey i) (er i) (ez i) (ek i + 1)
 
 -- a number that is 0 or planned is at most 16
 pub number-most : (s : State) (n : ℕ) → noNumber (s .plan) n ≡ false → n ≤ 16
