@@ -51,6 +51,17 @@ pub fn verdicts_line(words: &[u64], kind: u32) {
     say(b"\n");
 }
 
+// The causes told in the questions of all kinds, by their sorts from 1 on.
+pub fn causes_line(causes: &[u32]) {
+    report::say_causes();
+    let mut k: usize = 1;
+    while k < causes.len() {
+        report::say_number(b" ", causes[k]);
+        k += 1;
+    }
+    say(b"\n");
+}
+
 // The refusals, the total, and where something differed its first kind and case.
 pub fn last_lines(given: &[u8], t: Tally) {
     report::told_lines(
@@ -74,6 +85,9 @@ pub fn last_lines(given: &[u8], t: Tally) {
             32,
             33,
             41,
+            61,
+            62,
+            63,
         ],
     );
     if t.alldiffer != 0 {
