@@ -55,15 +55,15 @@ fn asked(file: &[u8], script: &[u8], words: &[u64], c: Case) -> Reply {
 }
 
 // Counts the cause that was told, by its sort.
-fn count(causes: &mut [u32], c: Cause) {
+fn count(causes: &mut [u64], c: Cause) {
     let k = model_calls::sort(c);
     if k < causes.len() {
-        causes[k] = tally::more(causes[k]);
+        causes[k] = std::num::wrapping_add_u64(causes[k], 1);
     }
 }
 
 // The case's questions, of which the last one's refusal is told.
-fn questions(file: &[u8], script: &[u8], words: &[u64], causes: &mut [u32], c: Case) -> Outcome {
+fn questions(file: &[u8], script: &[u8], words: &[u64], causes: &mut [u64], c: Case) -> Outcome {
     let mut same = true;
     let mut number: u32 = 0;
     let most = asks::count(c.kind);
@@ -84,7 +84,7 @@ fn questions(file: &[u8], script: &[u8], words: &[u64], causes: &mut [u32], c: C
 }
 
 // The case's replay and its questions.
-fn tried(file: &[u8], script: &[u8], words: &[u64], causes: &mut [u32], c: Case) -> Outcome {
+fn tried(file: &[u8], script: &[u8], words: &[u64], causes: &mut [u64], c: Case) -> Outcome {
     if c.kind == cases::LINES {
         return compared(file, script, c);
     }
@@ -97,7 +97,7 @@ fn tried(file: &[u8], script: &[u8], words: &[u64], causes: &mut [u32], c: Case)
     o
 }
 
-fn try_case(script: &mut [u8], words: &mut [u64], causes: &mut [u32], c: Case) -> Outcome {
+fn try_case(script: &mut [u8], words: &mut [u64], causes: &mut [u64], c: Case) -> Outcome {
     let mut file = [0u8; 1040];
     let filebytes = bytes::least(files::put(&mut file, c), file.len());
     let bytes = bytes::least(scripts::put(script, words, c), script.len());
@@ -110,7 +110,7 @@ struct Kind {
     periods: u32,
 }
 
-fn with_case(k: Kind, script: &mut [u8], words: &mut [u64], causes: &mut [u32], c: Case) -> Kind {
+fn with_case(k: Kind, script: &mut [u8], words: &mut [u64], causes: &mut [u64], c: Case) -> Kind {
     let o = try_case(script, words, causes, c);
     let t = k.tally;
     Kind {
@@ -123,7 +123,7 @@ fn try_kind(
     names: &[u8],
     before: Tally,
     script: &mut [u8],
-    causes: &mut [u32],
+    causes: &mut [u64],
     kind: u32,
 ) -> Tally {
     let mut words = [0u64; 483];
@@ -144,7 +144,7 @@ fn try_kind(
     t
 }
 
-fn try_kinds(names: &[u8], before: Tally, script: &mut [u8], causes: &mut [u32]) -> Tally {
+fn try_kinds(names: &[u8], before: Tally, script: &mut [u8], causes: &mut [u64]) -> Tally {
     let mut t = before;
     let mut kind: u32 = 0;
     while kind < cases::KINDS {
@@ -159,7 +159,7 @@ fn try_kinds(names: &[u8], before: Tally, script: &mut [u8], causes: &mut [u32])
 fn try_all(given: &[u8]) {
     let mut script = [0u8; 131072];
     let before = stated::cases(tally::start(), given, &mut script);
-    let mut causes = [0u32; 23];
+    let mut causes = [0u64; 23];
     let t = try_kinds(given, before, &mut script, &mut causes);
     report::causes_line(&causes);
     report::last_lines(given, t);

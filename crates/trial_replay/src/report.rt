@@ -37,13 +37,9 @@ pub fn kind_line(given: &[u8], t: Tally, kind: u32, periods: u32) {
     counts_line(t, periods);
 }
 
-// How often each verdict was told in the slots of a kind's scripts, where these are rows.
-pub fn verdicts_line(words: &[u64], kind: u32) {
-    if kind < cases::ROWS {
-        return;
-    }
-    say(b"verdicts 0 to 6 in these:");
-    let mut k = TOLD;
+// The words from one on, and the line's end.
+fn say_row(words: &[u64], from: usize) {
+    let mut k = from;
     while k < words.len() {
         report::say_number(b" ", (words[k] % 4294967296) as u32);
         k += 1;
@@ -51,15 +47,18 @@ pub fn verdicts_line(words: &[u64], kind: u32) {
     say(b"\n");
 }
 
-// The causes told in the questions of all kinds, by their sorts from 1 on.
-pub fn causes_line(causes: &[u32]) {
-    report::say_causes();
-    let mut k: usize = 1;
-    while k < causes.len() {
-        report::say_number(b" ", causes[k]);
-        k += 1;
+// How often each verdict was told in the slots of a kind's scripts, where these are rows.
+pub fn verdicts_line(words: &[u64], kind: u32) {
+    if kind >= cases::ROWS {
+        say(b"verdicts 0 to 6 in these:");
+        say_row(words, TOLD);
     }
-    say(b"\n");
+}
+
+// The causes told in the questions of all kinds, by their sorts from 1 on.
+pub fn causes_line(causes: &[u64]) {
+    report::say_causes();
+    say_row(causes, 1);
 }
 
 // The refusals, the total, and where something differed its first kind and case.
