@@ -63,7 +63,8 @@ fn bad_offer(s: &[u64], offers: &[u8], n: usize, above: bool) -> bool {
     }
 }
 
-fn slot_refusal(s: &[u64], offers: &[u8], lent: usize) -> u32 {
+// 30, 34, 31, 32 or 33, or 0.
+pub fn slot_refusal(s: &[u64], offers: &[u8], lent: usize) -> u32 {
     let number = state_refusal(s);
     if number != 0 {
         return number;
@@ -99,7 +100,7 @@ fn access(s: &mut [u64], n: usize) {
 }
 
 // Enters the granted number, or the idle slot.
-fn enter(s: &mut [u64], offers: &[u8], chosen: usize) {
+pub fn enter(s: &mut [u64], offers: &[u8], chosen: usize) {
     cells::add(s, 0, cells::DECIDED, 1);
     if chosen >= verdict::NOBODY {
         cells::add(s, 0, cells::IDLE, 1);

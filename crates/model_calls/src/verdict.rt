@@ -18,23 +18,30 @@ fn claim_offered(s: &[u64], offers: &[u8], n: usize) -> u64 {
     }
 }
 
-// Whether some domain is waiting on claim.
-fn some_wait(s: &[u64], offers: &[u8]) -> bool {
+// The lowest domain that is waiting on claim; NOBODY where none is.
+pub fn lowest_waiting(s: &[u64], offers: &[u8]) -> usize
+    ensures { λ r. ⌜ r ≤ 17 ⌝ }
+{
     let mut n: usize = 1;
     while n <= 16 {
         if claim_offered(s, offers, n) > 0 {
-            return true;
+            return n;
         }
         n += 1;
     }
-    false
+    NOBODY
 }
 
-// Loose is at most 0 just where the period is at most the slots decided and all claims of both kinds together.
-fn blocked(s: &[u64], offers: &[u8]) -> bool {
+// The slots decided and all claims of both kinds together: loose is the period less these.
+pub fn taken_off(s: &[u64]) -> u64 {
     let claims = cells::total(s, cells::CLAIM) + cells::total(s, cells::WRITECLAIM);
-    if cells::get(s, 0, cells::PERIOD) <= cells::get(s, 0, cells::DECIDED) + claims {
-        some_wait(s, offers)
+    cells::get(s, 0, cells::DECIDED) + claims
+}
+
+// Whether loose is at most 0 while some domain is waiting on claim.
+fn blocked(s: &[u64], offers: &[u8]) -> bool {
+    if cells::get(s, 0, cells::PERIOD) <= taken_off(s) {
+        lowest_waiting(s, offers) < NOBODY
     } else {
         false
     }

@@ -4,7 +4,7 @@
 // A whole slot line; 25 to 28 are whole yield lines.
 pub const SLOT: u32 = 19;
 
-const NEITHER: u32 = 29;
+pub const NEITHER: u32 = 29;
 
 // The form, and the numbers of a yield line so far.
 pub struct Line {
@@ -29,14 +29,15 @@ pub fn is_yield(form: u32) -> bool {
 }
 
 // The value of a digit, 10 for any other byte.
-fn digit(b: u8) -> u8 {
+pub fn digit(b: u8) -> u8 {
     match b {
         b'0'..=b'9' => b - b'0',
         _ => 10,
     }
 }
 
-fn on(form: u32, fits: bool) -> u32 {
+// The next form, where a byte fits it.
+pub fn on(form: u32, fits: bool) -> u32 {
     if fits {
         std::num::wrapping_add_u32(form, 1)
     } else {
@@ -59,10 +60,14 @@ fn after(form: u32, b: u8) -> u32 {
     }
 }
 
-// A number with one digit more; none here has more than four.
-fn tenfold(x: u64, b: u8) -> u64 {
+// A number with one digit more; none here has more than nine.
+pub fn tenfold(x: u64, b: u8) -> u64 {
     let d = digit(b);
-    if d < 10 { x % 1000 * 10 + d as u64 } else { x }
+    if d < 10 {
+        x % 100000000 * 10 + d as u64
+    } else {
+        x
+    }
 }
 
 // The line with one byte more, an offer of which goes to the lent slice.

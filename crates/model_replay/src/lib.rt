@@ -1,8 +1,13 @@
-// A second implementation of the replay, made plain and slow to compare the library with: a line judged byte by byte.
+// A second implementation of the replay and of questions, made plain and slow to compare the library with: a line and the file
+// `ask` judged byte by byte.
+mod ask;
+mod asking;
 mod form;
 mod run;
 pub mod text;
 
+pub use asking::Answered;
+pub use asking::why;
 pub use form::Line;
 pub use form::SLOT;
 pub use form::is_yield;

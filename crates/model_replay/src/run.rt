@@ -13,11 +13,11 @@ pub struct Ended {
 }
 
 // Where a script stands: the bytes printed, the number of the line at hand, what was read of it, and the refusal of it.
-struct At {
-    bytes: usize,
-    row: u64,
-    line: Line,
-    number: u32,
+pub struct At {
+    pub bytes: usize,
+    pub row: u64,
+    pub line: Line,
+    pub number: u32,
 }
 
 // The field of a domain; none of an absent one.
@@ -101,7 +101,7 @@ fn next_line(a: At, bytes: usize, number: u32) -> At {
 }
 
 // One byte more; none is looked at behind a refusal.
-fn with_byte(a: At, b: u8, s: &mut [u64], offers: &mut [u8], out: &mut [u8]) -> At {
+pub fn with_byte(a: At, b: u8, s: &mut [u64], offers: &mut [u8], out: &mut [u8]) -> At {
     if a.number != 0 {
         return a;
     }
@@ -115,15 +115,20 @@ fn with_byte(a: At, b: u8, s: &mut [u64], offers: &mut [u8], out: &mut [u8]) -> 
     after
 }
 
-// All bytes of a script.
-fn with_script(bytes: usize, script: &[u8], s: &mut [u64], out: &mut [u8]) -> At {
-    let mut offers = [0u8; 17];
-    let mut a = At {
+// Where a script begins, of which nothing is read.
+pub fn first_line(bytes: usize) -> At {
+    At {
         bytes,
         row: 1,
         line: form::nothing(),
         number: 0,
-    };
+    }
+}
+
+// All bytes of a script.
+fn with_script(bytes: usize, script: &[u8], s: &mut [u64], out: &mut [u8]) -> At {
+    let mut offers = [0u8; 17];
+    let mut a = first_line(bytes);
     let mut k: usize = 0;
     while k < script.len() {
         let next = with_byte(a, script[k], s, &mut offers, out);
@@ -157,7 +162,7 @@ fn last_line(out: &mut [u8], a: At, number: u32, decided: u64) -> usize {
     text::put_byte(out, at, 10)
 }
 
-fn refused_plan(out: &mut [u8], number: u32, place: u32) -> Ended {
+pub fn refused_plan(out: &mut [u8], number: u32, place: u32) -> Ended {
     let mut at = text::put_field(out, 0, b"plan refused ", words::wider(number));
     at = text::put_field(out, at, b" at ", words::wider(place));
     Ended {

@@ -1,6 +1,7 @@
 // One call of the library and of the model on the same state, compared; and its entry into the ledger. A state, with the plan
 // at hand behind it, and a slot's counts lie in lent words; what the library answers takes their place. A slot is put to both
-// engines, each on that state: what either answers has to be what the model does.
+// engines, each on that state: what either answers has to be what the model does. So has the cause of one of its verdicts.
+use super::asked;
 use model_calls::Decision;
 use model_calls::Entry;
 use model_calls::cells;
@@ -31,12 +32,13 @@ pub const DECIDED: u8 = 1;
 
 pub const REFUSED: u8 = 2;
 
-// What the library told, by the first engine, beside the model's refusal and whether all is the same; and the second engine's
-// part.
+// What the library told, by the first engine, beside the model's refusal and whether all is the same; the second engine's part;
+// and the sort of the cause that was asked for.
 pub struct Outcome {
     pub told: Told,
     pub verdict: Verdict,
     pub second: u8,
+    pub asked: usize,
 }
 
 // Of a call that tells neither verdicts nor steps nor counts.
@@ -225,15 +227,17 @@ pub fn answered(now: &mut [u64], counts: &mut [u64], c: Call) -> Outcome {
     forms::copy(&mut words, now);
     let model = model_call(&mut words, &mut due, c, p);
     let second = second_call(now, c, &words, &due, model);
+    let asked = asked::of_call(now, c);
     let told = library_call(now, counts, c);
     let same = is_due(now, counts, told, &words, &due, model);
     Outcome {
         told,
         verdict: Verdict {
             number: model.number,
-            same: both(same, second.same),
+            same: both(same, both(second.same, asked.same)),
         },
         second: second.part,
+        asked: asked.sort,
     }
 }
 

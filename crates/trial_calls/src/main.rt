@@ -1,6 +1,6 @@
 // Compares the library's opening, slots, yields and handing in with the model's on stated cases and on lists of calls that are
 // fixed by seeds, holds each list against the ledger and the bound of its rows, and prints what was compared. Every slot is put
-// to both engines.
+// to both engines, and the cause of one of its verdicts is asked for.
 use run::Case;
 use run::Run;
 use seen::Seen;
@@ -10,6 +10,7 @@ use trial_states::passing;
 use trial_states::styles;
 use trial_states::styles::Style;
 
+mod asked;
 mod both;
 mod report;
 mod rows;
@@ -23,7 +24,7 @@ const KINDS: u32 = 37;
 fn start() -> Run {
     Run {
         tally: tally::start(),
-        seen: Seen { counts: [0; 132] },
+        seen: Seen { counts: [0; 155] },
         before: 0,
     }
 }

@@ -38,13 +38,13 @@ pub struct Case {
     pub seed: u32,
 }
 
-// The run with one more verdict counted, and the second engine's part in its call.
-pub fn counted(r: Run, of: Case, v: Verdict, second: u8) -> Run {
+// The run with one more verdict counted, the second engine's part in its call, and the cause that was asked for.
+pub fn counted(r: Run, of: Case, v: Verdict, o: Outcome) -> Run {
     let mut after = r;
     let before = r.tally;
     let so_far = r.seen;
     let with = tally::counted(before, of.kind, of.case, v);
-    let more = seen::with_second(so_far, second);
+    let more = seen::with_asked(seen::with_second(so_far, o.second), o.asked);
     after.tally = with;
     after.seen = more;
     after
@@ -110,7 +110,7 @@ fn with_entry(
             tally::both(e.faults == 0, both::agree(page, now, t.number)),
         ),
     };
-    let mut after = counted(r, of, verdict, o.second);
+    let mut after = counted(r, of, verdict, o);
     let so_far = after.seen;
     let more = seen::with_call(so_far, c.what, t, e, counts, r.before != 0);
     after.seen = more;
@@ -189,7 +189,7 @@ fn with_other(r: Run, words: &mut [u64], of: Case, style: Style, seed: u32, what
     let mut before = [0u64; 714];
     let o = drawn_call(words, &mut before, of, style, seed, what);
     let v = o.verdict;
-    with_plan(counted(r, of, v, o.second), &before, what, v.number)
+    with_plan(counted(r, of, v, o), &before, what, v.number)
 }
 
 // A slot call on a changed state, a yield on what it answers, and a plan handed in on what that answers, for the kinds that
@@ -203,7 +203,7 @@ fn with_changed(r: Run, now: &[u64], of: Case, style: Style, seed: u32) -> Run {
     changes::put_changed(&mut words, now, of.kind, seed);
     let o = drawn_call(&mut words, &mut before, of, style, seed, calls::SLOT);
     let v = o.verdict;
-    let one = with_change(counted(r, of, v, o.second), &before, &words, v.number);
+    let one = with_change(counted(r, of, v, o), &before, &words, v.number);
     let two = with_other(
         one,
         &mut words,

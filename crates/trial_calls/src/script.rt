@@ -9,6 +9,10 @@
 //   slot OFFERS VERDICTS NN SS      a slot call, the bytes of the buffer after it (9 before it), its refusal and its steps; it is
 //                                   put to both engines, and either has to answer as is stated
 //   yield NN KKKK NN                a yield by a domain, and its refusal
+//   query OFFERS NN RR V W FFFF SSSS
+//                                   the cause (`explain`) of the verdict of a number in the slot that these offers would make of
+//                                   the state, which stays: the refusal, the verdict, 1 for claim, 2 for stock, 3 for neither or 4
+//                                   for a first figure below zero, and the figures
 //   told 00 IIII BBBB SSSSS         the counts told by the slot call before: idle, best effort and the sum of steps,
 //   told NN RRRR CCCC YYYY WWWW     and a domain's reserved, reclaimed, yielded and writebacks
 //   none                            the call before told no counts
@@ -28,6 +32,7 @@
 //                                   not granted; `alter`, `lay` and `known` end all rows
 // Numbers left out at a line's end are 0, and domain 00 is all sixteen.
 ghost use Prim.Native.Nat.{_≤_};
+use super::asked;
 use super::both;
 use super::both::Outcome;
 use super::rows;
@@ -35,6 +40,7 @@ use super::run;
 use super::run::Case;
 use super::run::Run;
 use super::seen;
+use model_calls::Cause;
 use model_calls::cells;
 use plan::Plan;
 use trial_kit::lines;
@@ -93,6 +99,7 @@ fn kind_of(letter: u8) -> u8 {
     }
 }
 
+// The number whose verdict is explained beside a slot call is what two of its offers happen to make.
 fn call_of(text: &[u8], at: usize) -> Call {
     Call {
         what: kind_of(lines::byte(text, at)),
@@ -168,6 +175,32 @@ fn call_line(
     forms::copy(&mut words, now);
     let o = both::answered(now, counts, c);
     called(s, text, at, &words, now, page, rows, counts, c, o)
+}
+
+// Whether a cause is the one that a line states.
+fn is_cause(m: Cause, text: &[u8], at: usize) -> bool {
+    let kind = if m.below { 4 } else { m.word };
+    let refusal = m.number == lines::small(text, at, 27, 2);
+    let verdict = m.verdict as u32 == lines::small(text, at, 30, 1);
+    let sort = kind as u32 == lines::small(text, at, 32, 1);
+    let first = m.first == lines::number(text, at, 34, 4);
+    let second = m.second == lines::number(text, at, 39, 4);
+    tally::both(
+        tally::both(tally::both(refusal, verdict), sort),
+        tally::both(first, second),
+    )
+}
+
+// A cause asked for on a state of these words.
+fn query_line(s: Script, text: &[u8], at: usize, now: &[u64]) -> Script {
+    let mut c = call_of(text, at);
+    let offers = digits_of(text, at, 6, 0);
+    c.what = calls::SLOT;
+    c.offers = offers;
+    c.domain = lines::number(text, at, 24, 2);
+    let a = asked::of_call(now, c);
+    let m = a.cause;
+    stated(s, tally::both(a.same, is_cause(m, text, at)))
 }
 
 // The refusal of a call, and the rest of its outcome.
@@ -398,6 +431,7 @@ fn line(
             s
         }
         b'u' => stated(s, rows::is_row(rows, text, at)),
+        b'q' => query_line(s, text, at, now),
         _ => stated(s, holds(text, at, now, page, counts, s.complete)),
     }
 }

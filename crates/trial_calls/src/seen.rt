@@ -12,9 +12,9 @@ use trial_states::estimates;
 
 // How often verdicts 0 to 6 were told stands at 0 to 6, how often steps 0 to 17 at 80 to 97, and behind them, by their sorts,
 // the estimates of marked domains before and after closes, and the needs that they leave; then what was put to the second
-// engine.
+// engine, and the causes that were asked for.
 pub struct Seen {
-    pub counts: [u32; 132],
+    pub counts: [u32; 155],
 }
 
 pub const IDLE: usize = 7;
@@ -75,11 +75,14 @@ const NEEDS: usize = 123;
 // The slot calls put to the second engine, and of them those that it refused.
 const SECOND: usize = 130;
 
-const COUNTS: usize = 132;
+// The causes asked for, by their sorts from 0 on, where 0 stands for none; it is not counted.
+const CAUSES: usize = 132;
+
+const COUNTS: usize = 155;
 
 pub fn raised(seen: Seen, k: usize, by: u32) -> Seen {
     let mut after = seen;
-    let at = k % 132;
+    let at = k % 155;
     let x = after.counts[at];
     if x < 1000000000 {
         after.counts[at] = x + by % 65536;
@@ -161,6 +164,11 @@ pub fn with_second(seen: Seen, part: u8) -> Seen {
     }
     let asked = raised(seen, SECOND, 1);
     raised(asked, SECOND + 1, if part == both::REFUSED { 1 } else { 0 })
+}
+
+// The cause asked for, of a sort; 0 is none.
+pub fn with_asked(seen: Seen, sort: usize) -> Seen {
+    raised(seen, CAUSES + sort % 23, if sort == 0 { 0 } else { 1 })
 }
 
 // A marked domain at a close, from the words before it and after: its estimates, and its need where it has one.
@@ -331,7 +339,7 @@ fn say_name(k: usize) {
 
 // A name, and the counts from one to before another.
 fn say_row(seen: Seen, name: &[u8], from: usize, to: usize)
-    requires { ⌜ to ≤ 132 ⌝ }
+    requires { ⌜ to ≤ 155 ⌝ }
 {
     report::say(name);
     let mut k = from;
@@ -342,7 +350,7 @@ fn say_row(seen: Seen, name: &[u8], from: usize, to: usize)
     report::say(b"\n");
 }
 
-// The counts that stand in rows: steps, estimates and needs, and what the second engine was asked.
+// The counts that stand in rows: steps, estimates and needs, what the second engine was asked, and causes.
 fn say_rows(seen: Seen) {
     say_row(seen, b"slots by their steps, 0 to 17:", STEPS, BEFORE);
     say_row(
@@ -368,8 +376,10 @@ fn say_rows(seen: Seen) {
         seen,
         b"slot calls put to the second engine, and of them refused by it:",
         SECOND,
-        COUNTS,
+        CAUSES,
     );
+    report::say_causes();
+    say_row(seen, b"", CAUSES + 1, COUNTS);
 }
 
 pub fn lines(seen: Seen) {

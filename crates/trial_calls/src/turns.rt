@@ -26,5 +26,5 @@ pub fn tried(r: Run, rows: &mut [u64], of: Case) -> Run {
         number: v.number,
         same: tally::both(v.same, held),
     };
-    run::counted(r, of, verdict, o.second)
+    run::counted(r, of, verdict, o)
 }

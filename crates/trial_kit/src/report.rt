@@ -29,6 +29,15 @@ pub fn counts_line(t: Tally) {
     differ_line(t);
 }
 
+// What the counts of causes, by their sorts, are of.
+pub fn say_causes() {
+    say(
+        b"causes asked for: of 0; of 1 claim for accesses, claim for writebacks, stock, neither for writebacks, neither for best \
+        effort; of 2, 3 and 4; of 5 without yields and with some; of 6 with loose 0 and below; refused with 30 to 34, 61, 62, \
+        63, and by the plan:",
+    );
+}
+
 // How often a refusal was told.
 fn told_line(t: Tally, number: u32) {
     let k = (number % 64) as usize;

@@ -37,18 +37,28 @@ pub fn kind_line(given: &[u8], t: Tally, kind: u32, periods: u32) {
     counts_line(t, periods);
 }
 
-// How often each verdict was told in the slots of a kind's scripts, where these are rows.
-pub fn verdicts_line(words: &[u64], kind: u32) {
-    if kind < cases::ROWS {
-        return;
-    }
-    say(b"verdicts 0 to 6 in these:");
-    let mut k = TOLD;
+// The words from one on, and the line's end.
+fn say_row(words: &[u64], from: usize) {
+    let mut k = from;
     while k < words.len() {
         report::say_number(b" ", (words[k] % 4294967296) as u32);
         k += 1;
     }
     say(b"\n");
+}
+
+// How often each verdict was told in the slots of a kind's scripts, where these are rows.
+pub fn verdicts_line(words: &[u64], kind: u32) {
+    if kind >= cases::ROWS {
+        say(b"verdicts 0 to 6 in these:");
+        say_row(words, TOLD);
+    }
+}
+
+// The causes told in the questions of all kinds, by their sorts from 1 on.
+pub fn causes_line(causes: &[u64]) {
+    report::say_causes();
+    say_row(causes, 1);
 }
 
 // The refusals, the total, and where something differed its first kind and case.
@@ -74,6 +84,9 @@ pub fn last_lines(given: &[u8], t: Tally) {
             32,
             33,
             41,
+            61,
+            62,
+            63,
         ],
     );
     if t.alldiffer != 0 {

@@ -9,8 +9,12 @@ use trial_kit::values;
 // one of nine ways, 21 to 25 damaged or drawn scripts, 26 short buffers, 27 lines read by themselves, and 29 and 30 plan files
 // with leftovers. From 31 on there are rows of slot lines: with a byte of one put to each value (31), with another line among
 // them (32), with P 1, 2 and 3 (33) and 4,096 (34), under plans whose claims and caps are used up (35), in parts that end at one
-// place of each line (36), and with short buffers (37).
-pub const KINDS: u32 = 38;
+// place of each line (36), and with short buffers (37). Each case up to here but those of 27 has a question too; from 38 on there
+// are questions alone: with a file `ask` edited in one of three ways (38 to 40), damaged otherwise (41), with short buffers (42),
+// and on scripts with yields under plans of few domains (43).
+pub const KINDS: u32 = 44;
+
+pub const QUESTIONS: u32 = 38;
 
 pub const ROWS: u32 = 31;
 
@@ -58,6 +62,10 @@ pub fn runs(kind: u32) -> u32 {
         35 => 100,
         36 => 200,
         37 => 700,
+        38 => 520,
+        39 | 40 => 3328,
+        42 => 1500,
+        43 => 1600,
         _ => 2000,
     }
 }
@@ -67,6 +75,7 @@ fn run_of(kind: u32, case: u32) -> u32 {
         1 => case / 272,
         23 => case / 400,
         26 => case / 700,
+        43 => case / 4 % 4096 * 16 + case % 4,
         _ => case,
     }
 }
@@ -78,9 +87,14 @@ fn style_of(kind: u32, run: u32) -> u32 {
         2 | 3 | 7 | 30 => styles::NONE,
         4 => styles::ONE,
         28 => styles::MARKED,
+        43 => match run / 16 % 4 {
+            0 => styles::TIGHT,
+            1 => styles::CROWDED,
+            _ => styles::MARKED,
+        },
         6 | 34 => styles::MOST,
         31 | 33 | 37 => styles::SHORT,
-        35 => if run % 2 == 0 {
+        35 | 38..=42 => if run % 2 == 0 {
             styles::TIGHT
         } else {
             styles::WHOLE
@@ -133,6 +147,8 @@ pub fn first_lines(c: Case) -> u32 {
         35 => 300,
         36 => 40,
         37 => 20,
+        38..=42 => 8,
+        43 => 30,
         _ => 0,
     }
 }
@@ -149,6 +165,7 @@ pub fn weights(c: Case) -> Weights {
         },
         yields: match kind {
             11 => 10,
+            43 => 5,
             32 => c.case / 16 % 2,
             35 => c.case / 2 % 2,
             31..=37 => 0,
@@ -162,6 +179,7 @@ pub fn lent(c: Case) -> usize {
     let kind = c.kind;
     match kind {
         26 | 37 => (c.case % 700) as usize,
+        42 => (c.case % 30) as usize,
         _ => BUFFER,
     }
 }

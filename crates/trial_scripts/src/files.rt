@@ -59,7 +59,8 @@ fn longer(file: &mut [u8], size: usize, c: Case) -> usize {
 }
 
 // Puts the file and answers its bytes: of each length in turn (0), with a byte damaged (1), filled (2, 3 and 30), too short in
-// the fourth run of short buffers, with records behind (29), and else as it is.
+// the fourth run of short buffers and in every eleventh case where the file `ask` is edited or damaged (38 to 41), with records
+// behind (29), and else as it is.
 pub fn put(file: &mut [u8], c: Case) -> usize {
     let size = cases::put_plan(file, c);
     let kind = c.kind;
@@ -73,6 +74,7 @@ pub fn put(file: &mut [u8], c: Case) -> usize {
         3 => cleared(file, c, bytes::ANY),
         26 => if c.run == 3 { 15 } else { size },
         29 => longer(file, size, c),
+        38..=41 => if c.case % 11 == 0 { 15 } else { size },
         30 => filled(file, c, bytes::SMALL),
         _ => size,
     }

@@ -1,4 +1,6 @@
-// The plan files and scripts that trial_replay compares replays on, fixed by seeds: good ones, and ones with faults.
+// The plan files, scripts and files `ask` that trial_replay compares replays and questions on, fixed by seeds: good ones, and ones
+// with faults.
+pub mod asks;
 pub mod cases;
 pub mod files;
 pub mod lines;

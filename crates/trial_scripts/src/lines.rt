@@ -11,7 +11,8 @@ pub struct Weights {
     pub yields: u32,
 }
 
-// The numbers of a yield line, and the least digits that each is put with.
+// The numbers of a yield line, and the least digits that each is put with. In a file `ask` the slot stands in the place of the
+// domain, and the offering number in that of k.
 pub struct Amount {
     pub domain: u32,
     pub domaindigits: u32,
@@ -82,20 +83,30 @@ fn put_zero(script: &mut [u8], at: usize, x: u32, digits: u32, place: u32, power
     at
 }
 
-// A number of at least so many digits, of which four are the most.
+// A number of at least so many digits, of which nine are the most.
 fn put_padded(script: &mut [u8], from: usize, x: u32, digits: u32) -> usize {
-    let mut at = put_zero(script, from, x, digits, 4, 1000);
-    at = put_zero(script, at, x, digits, 3, 100);
-    at = put_zero(script, at, x, digits, 2, 10);
+    let mut at = from;
+    let mut power: u32 = 100000000;
+    let mut place: u32 = 9;
+    while place > 1 {
+        at = put_zero(script, at, x, digits, place, power);
+        power = power / 10;
+        place -= 1;
+    }
     text::put_number(script, at, x as u64)
 }
 
+// Two numbers, a space between them and byte 10 behind.
+pub fn put_amount(to: &mut [u8], from: usize, y: Amount) -> usize {
+    let mut at = put_padded(to, from, y.domain, y.domaindigits);
+    at = text::put_byte(to, at, b' ');
+    at = put_padded(to, at, y.k, y.kdigits);
+    text::put_byte(to, at, 10)
+}
+
 pub fn put_yield(script: &mut [u8], from: usize, y: Amount) -> usize {
-    let mut at = text::put_text(script, from, b"y ");
-    at = put_padded(script, at, y.domain, y.domaindigits);
-    at = text::put_byte(script, at, b' ');
-    at = put_padded(script, at, y.k, y.kdigits);
-    text::put_byte(script, at, 10)
+    let at = text::put_text(script, from, b"y ");
+    put_amount(script, at, y)
 }
 
 // The offer of best effort or of a planned domain; none of another.

@@ -118,7 +118,7 @@ fn spoil_byte(script: &mut [u8], size: usize, seed: u32) {
 }
 
 // So many bytes damaged, where there are any.
-fn spoil(script: &mut [u8], size: usize, count: u32, seed: u32) {
+pub fn spoil(script: &mut [u8], size: usize, count: u32, seed: u32) {
     let mut i: u32 = 0;
     while i < count {
         spoil_byte(

@@ -9,7 +9,8 @@ pub const HAND: u8 = 2;
 
 pub const OPEN: u8 = 3;
 
-// A slot call has so many of the offers, and so many bytes lent, which hold `filled` before; a yield has a domain and k.
+// A slot call has so many of the offers, and so many bytes lent, which hold `filled` before, and in `domain` the number whose
+// verdict is to be explained; a yield has a domain and k.
 pub struct Call {
     pub what: u8,
     pub offers: [u8; 18],

@@ -226,6 +226,17 @@ pub fn kind_of(style: Style, seed: u32) -> u8 {
     }
 }
 
+// The number whose verdict is to be explained: mostly a planned domain's, or best effort.
+fn asked(words: &[u64], seed: u32) -> u64 {
+    let n = domain_from(words, draw::upto(seed, 15, 15), true) as u64;
+    match draw::upto(seed, 14, 7) {
+        0 => any_domain(words, n, draw::draw(seed, 16)),
+        1 => draw::upto(seed, 16, 16) as u64,
+        2 => 0,
+        _ => n,
+    }
+}
+
 // The call of a step; a plan that is handed in is no part of it.
 pub fn call(words: &[u64], style: Style, run: u32, seed: u32, what: u8) -> Call {
     let faults = faults_of(style, seed);
@@ -235,7 +246,7 @@ pub fn call(words: &[u64], style: Style, run: u32, seed: u32, what: u8) -> Call 
         offered: 17,
         lent: 17,
         filled: draw::low(draw::draw(seed, 3)),
-        domain: 0,
+        domain: asked(words, seed),
         k: 0,
     };
     match what {

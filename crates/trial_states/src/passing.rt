@@ -189,7 +189,7 @@ pub fn call(p: Passing, set: [bool; 17]) -> Call {
         offered: 17,
         lent: 17,
         filled: draw::low(p.seed),
-        domain: 0,
+        domain: draw::upto(p.seed, 16, 16) as u64,
         k: 0,
     }
 }

@@ -8,10 +8,10 @@ use Rattle.trial_replay.proofs.try_kind.Statement.{statement}
 use Rattle.trial_replay.proofs.try_kind.Tie as tie
 
 abbrev Inv-loop : tie.InvT-loop
-Inv-loop names script₀ kind t₀ words₀ periods₀ most case₀ script t words periods case = (case ≤ most) × (length script ≡ length script₀) × (length words ≡ 483)
+Inv-loop names script₀ causes₀ kind words₀ k₀ most case₀ script causes words k case = (case ≤ most) × (length script ≡ length script₀) × (length causes ≡ length causes₀) × (length words ≡ 483)
 
 abbrev μ-loop : tie.MeasureT-loop
-μ-loop names script₀ kind t₀ words₀ periods₀ most case₀ script t words periods case = most - case
+μ-loop names script₀ causes₀ kind words₀ k₀ most case₀ script causes words k case = most - case
 
 pub try-kind-spec : {M : Type 1} → statement M
 try-kind-spec =
@@ -25,14 +25,12 @@ try-kind-spec =
     (λ c. search needs)
     (λ c κs. search needs)
     (λ c κs. search needs)
-    (λ c κs. search needs)
-    (λ c κs. search needs)
-    (λ c κs. search needs)
     (λ c. search needs)
     (λ c. search needs)
     (λ c. search needs)
     (λ c κs. search needs)
     (λ c. search needs)
     (λ c κs. search needs)
+    (λ c. search needs)
     (λ c. search needs)
     (λ c. search needs))

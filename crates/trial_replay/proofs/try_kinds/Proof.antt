@@ -8,10 +8,10 @@ use Rattle.trial_replay.proofs.try_kinds.Statement.{statement}
 use Rattle.trial_replay.proofs.try_kinds.Tie as tie
 
 abbrev Inv-loop : tie.InvT-loop
-Inv-loop names script₀ t₀ kind₀ script t kind = (kind ≤ 38) × (length script ≡ length script₀)
+Inv-loop names script₀ causes₀ t₀ kind₀ script causes t kind = (kind ≤ 44) × (length script ≡ length script₀) × (length causes ≡ length causes₀)
 
 abbrev μ-loop : tie.MeasureT-loop
-μ-loop names script₀ t₀ kind₀ script t kind = 38 - kind
+μ-loop names script₀ causes₀ t₀ kind₀ script causes t kind = 44 - kind
 
 pub try-kinds-spec : {M : Type 1} → statement M
 try-kinds-spec =
@@ -21,6 +21,7 @@ try-kinds-spec =
     μ-loop
     (λ c. search needs)
     (λ c κs. search needs)
+    (λ c. search needs)
     (λ c. search needs)
     (λ c. search needs)
     (λ c. search needs)

@@ -8,10 +8,10 @@ use Rattle.trial_replay.proofs.stated.cases.Statement.{statement}
 use Rattle.trial_replay.proofs.stated.cases.Tie as tie
 
 abbrev Inv-loop : tie.InvT-loop
-Inv-loop given script₀ file₀ due₀ b₀ at₀ script file due b at = (length script ≡ length script₀) × (length file ≡ 1040) × (length due ≡ 4096)
+Inv-loop given script₀ file₀ ask₀ due₀ b₀ at₀ script file ask due b at = (length script ≡ length script₀) × (length file ≡ 1040) × (length ask ≡ 64) × (length due ≡ 4096)
 
 abbrev μ-loop : tie.MeasureT-loop
-μ-loop given script₀ file₀ due₀ b₀ at₀ script file due b at = length given - at
+μ-loop given script₀ file₀ ask₀ due₀ b₀ at₀ script file ask due b at = length given - at
 
 pub cases-spec : {M : Type 1} → statement M
 cases-spec =
@@ -19,6 +19,7 @@ cases-spec =
     (tie.spec
     Inv-loop
     μ-loop
+    (λ c. search needs)
     (λ c. search needs)
     (λ c. search needs)
     (λ c. search needs)
