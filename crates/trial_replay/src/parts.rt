@@ -1,7 +1,7 @@
 // The library's replay of a script, or its answer to a question on it, where the script comes part by part: each part is a longer
 // piece of the script's start.
 ghost use mathlib.Core.Path.{_≡_};
-ghost use Prim.Native.Nat.{_<_, _≤_};
+ghost use Prim.Native.Nat.{_<_};
 ghost use Rattle.script.specs.Feeding.{Sound};
 ghost use Rattle.question.specs.Seeking.{Sound as SoundSearch};
 use question::Search;

@@ -10,20 +10,20 @@ use native.Mathlib.Omega.{arith}
 use lib.Dec.{eqb, ltb}
 use lib.IntN.{ℤ}
 use lib.ListN.{length, length-set}
-use borrow.Author.Tests.{eq-eqb, ne-eqb}
+use borrow.Author.Tests.{ne-eqb}
 use Rattle.table.specs.Sums.{nth, sum}
 use Rattle.table.specs.Ranges.{lowest}
-use Rattle.table.proofs.Tables.{miss, hit}
+use Rattle.table.proofs.Tables.{miss}
 use Rattle.table.proofs.Filling.{values-length}
 use Rattle.regulator.specs.Verdict.{claimOf, waiting, loose, rulingOf}
 use Rattle.regulator.specs.Turn.{granted, rulings, verdicts}
-use Rattle.regulator.specs.Refusals.{slotRefusal, noDomain}
+use Rattle.regulator.specs.Refusals.{slotRefusal}
 use Rattle.regulator.specs.declared.state.State.{State}
 use Rattle.regulator.proofs.Laws.Adding.{Adds, adds}
 use Rattle.regulator.proofs.Laws.Refusing.{slot-taken, domain-number}
 use Rattle.regulator.proofs.Laws.Ruling.{one-granted}
 use Rattle.cause.specs.Cause.{none, wordFor, causeFrom, causeAt, verdictOf, causeOf}
-use Rattle.cause.specs.Explaining.{noNumber, explainRefusal, Explanation, explainOf}
+use Rattle.cause.specs.Explaining.{noNumber, explainRefusal, explainOf}
 
 -- there are seventeen verdicts
 pub verdicts-length : (s : State) (o : List ℕ) → length (verdicts s o) ≡ 17

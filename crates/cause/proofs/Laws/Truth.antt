@@ -11,7 +11,7 @@ use lib.Dec.{eqb, ltb}
 use lib.IntN.{pos}
 use lib.Signed.{leZ}
 use lib.ListN.{length}
-use borrow.Author.Tests.{eqb-true, eqb-false, ltb-true, ltb-false, eq-eqb, ne-eqb, lt-ltb, le-ltb, not-true, not-false}
+use borrow.Author.Tests.{eqb-true, eqb-false, ltb-true, ltb-false, eq-eqb, ne-eqb, lt-ltb, le-ltb, not-true}
 use Rattle.table.specs.Sums.{nth, sum}
 use Rattle.table.specs.Ranges.{someBelow, lowest}
 use Rattle.table.proofs.Tables.{miss, hit, and-both}
@@ -29,7 +29,7 @@ use Rattle.regulator.proofs.Laws.Refusing.{slot-taken}
 use Rattle.regulator.proofs.Laws.Asking.{ask-passes}
 use Rattle.regulator.proofs.Laws.Ruling.{ruling-best, ruling-domain, never-one, passing-offers, Granted, to-none, to-best, on-claim, on-stock, on-writeback, granted-most, some-granted, granted-to, verdict-granted, verdict-other, verdict-number}
 use Rattle.regulator.proofs.Laws.Deciding.{decided-best, decided-claim, decided-stock, decided-writeback, ended-open, ended-complete, slot-decided, slot-number, shown-decided}
-use Rattle.cause.specs.Cause.{Word, ofClaim, ofStock, ofNeither, Cause, none, word, number, cap, totals, looseAnd, wordFor, wordOf, causeFrom, causeAt}
+use Rattle.cause.specs.Cause.{Word, ofClaim, ofStock, ofNeither, Cause, word, number, cap, totals, looseAnd, wordFor, wordOf, causeFrom, causeAt}
 use Rattle.cause.specs.Reason.{Leaves, Reason, no-offer, access-claim, writeback-claim, access-stock, writeback-neither, best-neither, other-granted, writebacks-full, reclaimed-full, stock-empty, held-back, TrueCause, CauseIsTrue}
 
 -- the line of the verdicts' table that applied

@@ -2,8 +2,8 @@
 -- Assumes nothing.
 use mathlib.Core.Path.{_≡_, refl, sym, ap, subst, _∙_}
 use mathlib.Core.Logic.{_≢_}
-use mathlib.Core.Bool.{Bool, true, false, cond, _&&_, false≢true, and-false}
-use mathlib.Core.List.{List, []}
+use mathlib.Core.Bool.{Bool, true, false, cond, _&&_, false≢true}
+use mathlib.Core.List.{List}
 use Prim.Native.Nat.{ℕ, suc, _+_, _-_, _≤_}
 use native.Mathlib.Nat.{zero-add}
 use native.Mathlib.Omega.{arith}
@@ -19,10 +19,9 @@ use Rattle.table.specs.Sums.{nth}
 use Rattle.table.proofs.Tables.{miss, hit}
 use Rattle.regulator.specs.Refusals.{slotRefusal}
 use Rattle.regulator.specs.declared.state.State.{State}
-use Rattle.cause.specs.Cause.{verdictOf, causeOf}
 use Rattle.cause.specs.Explaining.{noNumber, Explanation, explainOf}
 use Rattle.cause.proofs.Laws.Explaining.{explain-number, explain-told}
-use Rattle.script.specs.Line.{isNumber, valueOf, before, behind}
+use Rattle.script.specs.Line.{isNumber, before, behind}
 use Rattle.script.specs.Inner.{numbersIn}
 use Rattle.script.specs.declared.line.Numbers.{Numbers}
 use Rattle.question.specs.Ask.{asks, malformed, butLast, isAsk, questionOf}

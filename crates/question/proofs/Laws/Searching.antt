@@ -3,7 +3,7 @@
 use mathlib.Core.Path.{_≡_, refl, sym, ap, subst, _∙_}
 use mathlib.Core.Logic.{_≢_}
 use mathlib.Core.Bool.{Bool, true, false, cond, false≢true}
-use mathlib.Core.List.{List, [], _∷_, _++_, append-nil}
+use mathlib.Core.List.{List, [], _++_, append-nil}
 use Prim.Native.Nat.{ℕ, _+_, _-_, _≤_, _<_}
 use native.Mathlib.Decide.{ℕ-discrete}
 use native.Mathlib.Omega.{arith}
@@ -30,7 +30,7 @@ use Rattle.script.specs.Inner.{LineEnd, openEnd}
 use Rattle.script.proofs.Laws.Splitting.{split-empty, split-none, lineIn, Ending, byTen, byLength, ending, split-front, split-long, bad-refused}
 use Rattle.script.proofs.Laws.Carrying.{bad-line, line-taken}
 use Rattle.question.specs.Ask.{Question, asks, malformed, questionOf}
-use Rattle.question.specs.Slots.{Decided, slotsFrom, decidedBy, Found, undecided, slotAt}
+use Rattle.question.specs.Slots.{Decided, slotsFrom, decidedBy, Found, slotAt}
 use Rattle.question.specs.Answer.{foundText, askRefusedText, askedText, answerTo, whyText}
 use Rattle.question.specs.Seeking.{goesOn, isFound, stageText, answerText, Sound, Sought, Seeks, Started}
 use Rattle.question.specs.Inner.{firstStage, begun, over, found, onward, searchAfter}
@@ -45,6 +45,15 @@ seeking-is Seeking e = refl
 seeking-is FoundStage e = absurd (false≢true e)
 seeking-is (AskRefused n) e = absurd (false≢true e)
 seeking-is (PlanRefused n k) e = absurd (false≢true e)
+
+-- a search that ended with a refusal keeps nothing
+over-sound : (q : Search) → goesOn (q .stage) ≡ false → isFound (q .stage) ≡ false → Sound q
+over-sound q a b =
+    record {
+      adds = λ z. absurd (false≢true (sym a ∙ z));
+      some = λ z. absurd (false≢true (sym a ∙ z));
+      found = λ z. absurd (false≢true (sym b ∙ z));
+    }
 
 -- what is told at a stage
 pub at-stage : (q : Search) (g : Stage) (rest : List ℕ) → q .stage ≡ g → answerText q rest ≡ stageText g q rest
@@ -181,7 +190,7 @@ module _ (q : Search) (part : List ℕ) (end : ℕ) (ends : LineEnd part (q .use
       record {
         same = λ later.
             now-told later ∙ ap (told q) (slots-over e later) ∙ none-told q ∙ sym (at-stage (over q (AskRefused 61)) (AskRefused 61) _ refl);
-        sound = record { adds = λ z. absurd (false≢true z); some = λ z. absurd (false≢true z); found = λ z. absurd (false≢true z) };
+        sound = over-sound _ refl refl;
         within = within;
       }
 
@@ -317,7 +326,7 @@ module _ (plan ask : List ℕ) (s : State) where
       record {
         same = λ script.
             ap (λ (x : Question). answerTo x plan script) e ∙ sym (at-stage (begun (AskRefused 63) s 0 0) (AskRefused 63) script refl);
-        sound = record { adds = λ z. absurd (false≢true z); some = λ z. absurd (false≢true z); found = λ z. absurd (false≢true z) };
+        sound = over-sound _ refl refl;
         none = refl;
       }
 
@@ -336,7 +345,7 @@ module _ (plan ask : List ℕ) (s : State) where
         let g = PlanRefused (readPlan plan .refused) (readPlan plan .place) in
         record {
           same = λ script. asked script ∙ miss _ _ _ (ne-eqb (readPlan plan .refused) 0 h) ∙ sym (at-stage (begun g s slot n) g script refl);
-          sound = record { adds = λ z. absurd (false≢true z); some = λ z. absurd (false≢true z); found = λ z. absurd (false≢true z) };
+          sound = over-sound _ refl refl;
           none = refl;
         }
 
@@ -356,7 +365,7 @@ module _ (plan ask : List ℕ) (s : State) where
                 ∙ ap (λ (f : Found). foundText f n)
                 (ap (λ (k : ℕ). slotAt k (decidedBy s (split script .lines))) z ∙ slot-zero (decidedBy s (split script .lines)))
                 ∙ sym (at-stage (begun (AskRefused 61) s slot n) (AskRefused 61) script refl);
-            sound = record { adds = λ y. absurd (false≢true y); some = λ y. absurd (false≢true y); found = λ y. absurd (false≢true y) };
+            sound = over-sound _ refl refl;
             none = refl;
           }
 

@@ -2,18 +2,17 @@
 -- Assumes nothing.
 use mathlib.Core.Path.{_≡_, refl, sym, ap, ap₂, _∙_}
 use mathlib.Core.Logic.{_≢_}
-use mathlib.Core.Bool.{Bool, true, false, cond, false≢true}
-use mathlib.Core.List.{List, [], _∷_, _++_, append-assoc, append-nil}
+use mathlib.Core.Bool.{true, false, cond}
+use mathlib.Core.List.{List, [], _++_, append-assoc, append-nil}
 use Prim.Native.Nat.{ℕ, _+_, _-_, _≤_, _<_, min}
-use native.Mathlib.Numerals.{add-one}
 use native.Mathlib.Decide.{ℕ-discrete}
 use native.Mathlib.Omega.{arith}
 use lib.Dec.{eqb, ltb}
-use lib.ListN.{length, take, drop, length-append, length-drop, take-append-drop}
-use lib.Seq.{take-all, drop-cons, drop-drop, length-take-le}
+use lib.ListN.{length, take, drop, length-append, length-drop}
+use lib.Seq.{take-all}
 use borrow.Author.Tests.{eqb-true, ltb-true, ltb-false, eq-eqb, ne-eqb}
 use Rattle.table.specs.Sums.{nth}
-use Rattle.table.proofs.Tables.{miss, hit, both, and-both}
+use Rattle.table.proofs.Tables.{miss, hit, and-both}
 use Rattle.plan.specs.Value.{planRefusal}
 use Rattle.plan.specs.Reading.{readPlan}
 use Rattle.plan.specs.declared.value.Refusal.{Refusal}
@@ -28,7 +27,7 @@ use Rattle.script.specs.Text.{header, openText, planRefusedText, lineRef
 use Rattle.script.specs.Replay.{Script, split, Done, carriedOut, linesText, replayText}
 use Rattle.script.specs.Output.{Output, output, put}
 use Rattle.script.specs.Feeding.{restText, linesBefore, Sound, unended, lacksRoom, lineRoom, Fed, Started}
-use Rattle.script.specs.Inner.{Stepped, Stop, atTen, tooLong, atEnd, LineEnd, openEnd}
+use Rattle.script.specs.Inner.{Stepped, LineEnd, openEnd}
 use Rattle.script.specs.declared.feeding.Run.{Run}
 use Rattle.script.specs.declared.carrying.Step.{Step}
 use Rattle.script.proofs.Laws.Lengths.{header-long, plan-refused-long, line-refused-long}

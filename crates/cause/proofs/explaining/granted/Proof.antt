@@ -1,6 +1,5 @@
 -- `cause::explaining::granted` meets its contract: a search from the front.
 -- Assumes nothing.
-use denote.Ref.{now}
 use mathlib.Core.Bool.{Bool}
 use mathlib.Core.List.{List}
 use Prim.Native.Nat.{ℕ, _-_}

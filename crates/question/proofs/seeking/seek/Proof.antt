@@ -4,11 +4,10 @@ use mathlib.Core.Path.{_≡_, sym, _∙_}
 use mathlib.Core.Bool.{cond, false≢true}
 use denote.Ref.{now}
 use Prim.Native.Nat.{_+_, _-_, _≤_}
-use native.Mathlib.Omega.{arith}
 use lib.ListN.{length}
 use borrow.Author.Needs.{needs}
 use Rattle.script.proofs.Laws.Feeding.{fed-lineless}
-use Rattle.question.specs.Seeking.{goesOn, Sound, Sought, Seeks}
+use Rattle.question.specs.Seeking.{goesOn, Sound, Sought}
 use Rattle.question.proofs.Laws.Searching.{sought-none, sought-then, less-left}
 use Rattle.question.proofs.seeking.seek.Statement.{statement}
 use Rattle.question.proofs.seeking.seek.Tie as tie

@@ -12,7 +12,6 @@ use Rattle.question.specs.Seeking.{Started}
 use Rattle.question.specs.Inner.{askedBy, begun, firstStage}
 use Rattle.question.specs.declared.ask.Asked.{Asked}
 use Rattle.question.specs.declared.seeking.Stage.{Stage}
-use Rattle.question.specs.declared.seeking.Search.{Search}
 use Rattle.question.proofs.Laws.Searching.{started-malformed, started-asked}
 use Rattle.question.proofs.seeking.start.Statement.{statement}
 use Rattle.question.proofs.seeking.start.Tie as tie
