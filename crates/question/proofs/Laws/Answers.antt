@@ -1,8 +1,8 @@
 -- Laws of the question that is read, and of the answer's text.
 -- Assumes nothing.
-use mathlib.Core.Path.{_≡_, refl, sym, ap, subst, _∙_}
+use mathlib.Core.Path.{_≡_, refl, sym, ap, ap₂, subst, _∙_}
 use mathlib.Core.Logic.{_≢_}
-use mathlib.Core.Bool.{Bool, true, false, cond, _&&_, false≢true}
+use mathlib.Core.Bool.{Bool, true, false, cond, false≢true}
 use mathlib.Core.List.{List}
 use Prim.Native.Nat.{ℕ, suc, _+_, _-_, _≤_}
 use native.Mathlib.Nat.{zero-add}
@@ -21,9 +21,9 @@ use Rattle.regulator.specs.Refusals.{slotRefusal}
 use Rattle.regulator.specs.declared.state.State.{State}
 use Rattle.cause.specs.Explaining.{noNumber, Explanation, explainOf}
 use Rattle.cause.proofs.Laws.Explaining.{explain-number, explain-told}
-use Rattle.script.specs.Line.{isNumber, before, behind}
 use Rattle.script.specs.Inner.{numbersIn}
 use Rattle.script.specs.declared.line.Numbers.{Numbers}
+use Rattle.script.proofs.Laws.Reading.{written-is, written-values}
 use Rattle.question.specs.Ask.{asks, malformed, butLast, isAsk, questionOf}
 use Rattle.question.specs.Slots.{Decided}
 use Rattle.question.specs.Answer.{toldText, askRefusedText, slotText}
@@ -35,21 +35,19 @@ module _ (bs : List ℕ) where
   unended-malformed h = rw (ne-eqb _ 10 h) refl
 
   module _ (n : Numbers) (e : n ≡ numbersIn 9 2 (butLast bs)) (h : nth bs (length bs - 1) ≡ 10) where
+    asked : isAsk bs ≡ n .written
+    unfolding isAsk
+    asked = rw (eq-eqb _ 10 h) (written-is 9 2 (butLast bs) n e)
+
     pub numbers-asked : n .written ≡ true → questionOf bs ≡ asks (n .first) (n .second)
-    unfolding questionOf isAsk numbersIn
-    numbers-asked w = go (isNumber 9 (before (butLast bs)) && isNumber 2 (behind (butLast bs))) refl
-      where
-        go : (b : Bool) → (isNumber 9 (before (butLast bs)) && isNumber 2 (behind (butLast bs))) ≡ b → questionOf bs ≡ asks (n .first) (n .second)
-        go true q = rw (eq-eqb _ 10 h, q) (ap (λ (m : Numbers). asks (m .first) (m .second)) (sym (e ∙ hit _ _ _ q)))
-        go false q = absurd (false≢true (sym (ap (λ (m : Numbers). m .written) (e ∙ miss _ _ _ q)) ∙ w))
+    unfolding questionOf
+    numbers-asked w =
+        let v = written-values 9 2 (butLast bs) n e w in
+        hit _ _ _ (asked ∙ w) ∙ sym (ap₂ asks (v .0) (v .1))
 
     pub numbers-malformed : n .written ≡ false → questionOf bs ≡ malformed
-    unfolding questionOf isAsk numbersIn
-    numbers-malformed w = go (isNumber 9 (before (butLast bs)) && isNumber 2 (behind (butLast bs))) refl
-      where
-        go : (b : Bool) → (isNumber 9 (before (butLast bs)) && isNumber 2 (behind (butLast bs))) ≡ b → questionOf bs ≡ malformed
-        go true q = absurd (false≢true (sym w ∙ ap (λ (m : Numbers). m .written) (e ∙ hit _ _ _ q)))
-        go false q = rw (eq-eqb _ 10 h, q) refl
+    unfolding questionOf
+    numbers-malformed w = miss _ _ _ (asked ∙ w)
 
 -- what is told in a decided slot is what the call explains
 module _ (s : State) (o : List ℕ) (n : ℕ) (e : slotRefusal s o 17 ≡ 0) where

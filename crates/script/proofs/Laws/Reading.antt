@@ -2,7 +2,7 @@
 -- Assumes nothing.
 use mathlib.Core.Path.{_≡_, refl, sym, ap, ap₂, _∙_}
 use mathlib.Core.Logic.{_≢_}
-use mathlib.Core.Bool.{Bool, true, false, cond, _&&_, and-false, false≢true}
+use mathlib.Core.Bool.{Bool, true, false, cond, _&&_, and-false}
 use mathlib.Core.List.{List, [], _∷_, _++_, append-nil}
 use Prim.Native.Nat.{ℕ, _+_, _-_, _*_, _≤_, _<_}
 use native.Mathlib.Numerals.{add-one}
@@ -108,23 +108,37 @@ module _ (most more : ℕ) (l : List ℕ) where
   unfolding numbersIn
   numbers-no-second a = miss _ _ _ (ap (λ (t : Bool). isNumber most (before l) && t) a ∙ and-false (isNumber most (before l)))
 
+  -- what the answer tells: whether both are written, and the two where they are
+  module _ (n : Numbers) (e : n ≡ numbersIn most more l) where
+    abbrev both-written : Bool
+    both-written = isNumber most (before l) && isNumber more (behind l)
+
+    pub written-is : both-written ≡ n .written
+    unfolding numbersIn
+    written-is = go both-written refl
+      where
+        go : (b : Bool) → both-written ≡ b → b ≡ n .written
+        go true q = sym (ap (λ (m : Numbers). m .written) (e ∙ hit _ _ _ q))
+        go false q = sym (ap (λ (m : Numbers). m .written) (e ∙ miss _ _ _ q))
+
+    pub written-values : n .written ≡ true → (n .first ≡ valueOf (before l)) × (n .second ≡ valueOf (behind l))
+    unfolding numbersIn
+    written-values w =
+        let q = e ∙ hit _ _ _ (written-is ∙ w) in
+        (ap (λ (m : Numbers). m .first) q, ap (λ (m : Numbers). m .second) q)
+
 -- What a yield line means: its two numbers, or where one is none.
 module _ (l : List ℕ) where
-  pub yield-read : (n : Numbers) → n ≡ numbersIn 2 4 l → n .written ≡ true → yieldMeaning l ≡ yieldLine (n .first) (n .second)
-  unfolding yieldMeaning isYield numbersIn
-  yield-read n e w = go (isNumber 2 (before l) && isNumber 4 (behind l)) refl
-    where
-      go : (b : Bool) → (isNumber 2 (before l) && isNumber 4 (behind l)) ≡ b → yieldMeaning l ≡ yieldLine (n .first) (n .second)
-      go true q = hit _ _ _ q ∙ ap (λ (m : Numbers). yieldLine (m .first) (m .second)) (sym (e ∙ hit _ _ _ q))
-      go false q = absurd (false≢true (sym (ap (λ (m : Numbers). m .written) (e ∙ miss _ _ _ q)) ∙ w))
+  module _ (n : Numbers) (e : n ≡ numbersIn 2 4 l) where
+    pub yield-read : n .written ≡ true → yieldMeaning l ≡ yieldLine (n .first) (n .second)
+    unfolding yieldMeaning isYield
+    yield-read w =
+        let v = written-values 2 4 l n e w in
+        hit _ _ _ (written-is 2 4 l n e ∙ w) ∙ sym (ap₂ yieldLine (v .0) (v .1))
 
-  pub yield-unread : (n : Numbers) → n ≡ numbersIn 2 4 l → n .written ≡ false → yieldMeaning l ≡ badLine 41
-  unfolding yieldMeaning isYield numbersIn
-  yield-unread n e w = go (isNumber 2 (before l) && isNumber 4 (behind l)) refl
-    where
-      go : (b : Bool) → (isNumber 2 (before l) && isNumber 4 (behind l)) ≡ b → yieldMeaning l ≡ badLine 41
-      go true q = absurd (false≢true (sym w ∙ ap (λ (m : Numbers). m .written) (e ∙ hit _ _ _ q)))
-      go false q = miss _ _ _ q
+    pub yield-unread : n .written ≡ false → yieldMeaning l ≡ badLine 41
+    unfolding yieldMeaning isYield
+    yield-unread w = miss _ _ _ (written-is 2 4 l n e ∙ w)
 
   pub yield-bad-domain : isNumber 2 (before l) ≡ false → yieldMeaning l ≡ badLine 41
   unfolding yieldMeaning isYield
