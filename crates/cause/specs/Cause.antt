@@ -20,7 +20,8 @@ pub data Word : Type 0 where
   ofStock : Word
   ofNeither : Word
 
--- What is told of a verdict, beside the verdict itself.
+-- What is told of a verdict, beside the verdict itself: nothing; a word; the number granted; a cap; what all domains yielded and reclaimed;
+-- or loose and a domain.
 pub data Cause : Type 0 where
   none : Cause
   word : Word → Cause
@@ -59,7 +60,8 @@ abbrev pub wordOf : State → List ℕ → (n : ℕ) → Word
 wordOf s offers n =
     wordFor (eqb n 0) (ltb 0 (claimOf (nth offers n) (nth (s .claim) (n - 1)) (nth (s .writebackclaim) (n - 1)))) (eqb (nth offers n) 2)
 
--- The cause of a verdict of number n in that slot. All is told as it stands before the slot.
+-- The cause of a verdict of number n in that slot. All is told as it stands before the slot. (Domain n has index n − 1 in the lists; of
+-- best effort, which has no caps, neither 3 nor 4 is ever told.)
 unfoldable pub causeAt : State → List ℕ → (n verdict : ℕ) → Cause
 causeAt s offers n verdict =
     causeFrom verdict (wordOf s offers n) (granted s offers) (nth (s .plan .writebackcap) (n - 1)) (nth (s .plan .reclaimcap) (n - 1))
