@@ -14,7 +14,7 @@ pub(crate) fn wide(x: u8) -> u16
 }
 
 // A number of two bytes, unsigned, little-endian.
-pub(crate) fn u16_at(s: &[u8], at: usize) -> u16
+pub fn u16_at(s: &[u8], at: usize) -> u16
     requires { ⌜ at + 1 < length (now s) ⌝ }
     ensures { λ r. ⌜ r ≡ u16At (now (s .entry)) at ⌝ }
 {
@@ -36,7 +36,7 @@ pub(crate) fn all_zero(s: &[u8]) -> bool
 }
 
 // The sixteen bytes of record i.
-pub(crate) fn record_part(file: &[u8], i: usize) -> &[u8]
+pub fn record_part(file: &[u8], i: usize) -> &[u8]
     requires { ⌜ 16 * i + 16 ≤ length (now file) ⌝ }
     ensures { λ r. ⌜ (now r ≡ recordAt (now (file .entry)) i) × (length (now r) ≡ 16) ⌝ }
 {
@@ -91,7 +91,7 @@ fn mark_byte(marked: bool) -> u8
 }
 
 // The bytes of a domain's record.
-pub(crate) fn domain_record(next: u16, d: Domain) -> [u8; 16]
+pub fn domain_record(next: u16, d: Domain) -> [u8; 16]
     ensures { λ r. ⌜ r ≡ domainRecord next d ⌝ }
 {
     [
@@ -115,7 +115,7 @@ pub(crate) fn domain_record(next: u16, d: Domain) -> [u8; 16]
 }
 
 // A record, written to a lent part of sixteen bytes.
-pub(crate) fn put_record(b: &mut [u8], bytes: [u8; 16])
+pub fn put_record(b: &mut [u8], bytes: [u8; 16])
     requires { ⌜ length (now b) ≡ 16 ⌝ }
     ensures { λ _. ⌜ now (b .exit) ≡ bytes ⌝ }
 {

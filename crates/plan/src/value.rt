@@ -136,7 +136,7 @@ fn lowest_fault(p: Plan, capped: bool) -> usize
 }
 
 // What all domains reserve together.
-fn all_reserved(p: Plan) -> u32
+pub fn all_reserved(p: Plan) -> u32
     ensures { λ r. ⌜ r ≡ reserved p ⌝ }
 {
     let q = p.reservation;

@@ -54,7 +54,7 @@ fn list_domains(p: Plan) -> Listed
 }
 
 // The index that record k names, of a chain of n domains.
-fn next_index(n: usize, k: usize) -> u16
+pub fn next_index(n: usize, k: usize) -> u16
     requires { ⌜ k ≤ 64 ⌝ }
     ensures { λ r. ⌜ r ≡ nextIndex n k ⌝ }
 {

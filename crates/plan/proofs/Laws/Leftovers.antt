@@ -1,6 +1,6 @@
 -- What reading answers beside the earlier rule: the line of leftovers, and the claims of document 02, Point 5.
 -- Assumes nothing.
-use mathlib.Core.Path.{_≡_, refl, sym, ap, subst, _∙_}
+use mathlib.Core.Path.{_≡_, refl, sym, ap, ap₂, subst, _∙_}
 use mathlib.Core.Logic.{_≢_}
 use mathlib.Core.Bool.{Bool, true, false, cond, not, _&&_, false≢true}
 use mathlib.Core.List.{List, _++_, map}
@@ -14,7 +14,7 @@ use Rattle.table.specs.Ranges.{someBelow, lowest}
 use Rattle.table.specs.Lines.{Line, firstOf}
 use Rattle.table.proofs.Tables.{miss, hit, neg, unapplied, first-more, applied, never}
 use Rattle.table.proofs.Filling.{values-at}
-use Rattle.table.proofs.Searches.{lowest-is, lowest-some, some-all, some-at}
+use Rattle.table.proofs.Searches.{none-at, lowest-is, lowest-some, some-all, some-at}
 use Rattle.plan.specs.Value.{Sized, planRefusal, refusal}
 use Rattle.plan.specs.Records.{zeros, recordAt, recordCount, periodIn, numberAt}
 use Rattle.plan.specs.Chain.{linkTable, recordTable, link, faultAt, fault, chainOf, lastSum}
@@ -71,6 +71,16 @@ module _ (s : List ℕ) where
       go i h true true low on = refl
       go i h true false low on = neg (used i (leb-true 1 i low) h on)
       go i h false b low on = refl
+
+  -- and where there is none, each of them is
+  all-zero : some ≡ false → (i : ℕ) → 1 ≤ i → i < recordCount s → has i (chainOf s) ≡ false → zeros (recordAt s i) ≡ true
+  unfolding leftover
+  all-zero none i low h off =
+      go (zeros (recordAt s i)) (sym (ap₂ (λ (a b : Bool). a && (not b && not (zeros (recordAt s i)))) (le-leb 1 i low) off) ∙ none-at (leftover s) (recordCount s) i none h)
+    where
+      go : (b : Bool) → not b ≡ false → b ≡ true
+      go true q = refl
+      go false q = absurd (false≢true (sym q))
 
   -- the earlier rule never answers 12
   earlier-other : readWithLeftovers s .refused ≢ 12
@@ -138,9 +148,24 @@ twelve-for-leftovers s =
         let below = leb-false (readPlan s .place) i q in
         absurd (false≢true (sym (lowest-is (leftover s) 0 (recordCount s) .before i (omega arith) (omega (arith, e))) ∙ l .1))
 
+-- What is known of a file that is read: the earlier rule takes it, with the same answer, and it has no leftovers.
+pub record Tidy (s : List ℕ) : Type 0 where
+  pub earlier : readWithLeftovers s .refused ≡ 0
+  pub same : readPlan s ≡ readWithLeftovers s
+  pub unused : (i : ℕ) → 1 ≤ i → i < recordCount s → has i (chainOf s) ≡ false → zeros (recordAt s i) ≡ true
+
+pub tidy : (s : List ℕ) → readPlan s .refused ≡ 0 → Tidy s
+tidy s e =
+    let same = earlier-or-twelve s (λ q. omega arith) in
+    let ok : readWithLeftovers s .refused ≡ 0 = ap (λ (r : Reading). r .refused) (sym same) ∙ e in
+    record { earlier = ok; same = same; unused = all-zero s (go ok (some s) refl) }
+  where
+    go : readWithLeftovers s .refused ≡ 0 → (b : Bool) → some s ≡ b → some s ≡ false
+    go ok true q = let n : _≡_ {A = ℕ} 12 0 = ap (λ (r : Reading). r .refused) (sym (read-left s ok q)) ∙ e in absurd (omega arith)
+    go ok false q = q
+
 -- what is read is accepted as a value
 pub read-is-accepted : ReadIsAccepted readPlan
 read-is-accepted s e =
-    let same = earlier-or-twelve s (λ q. omega arith) in
-    subst (λ (r : Reading). Sized (r .plan) × (planRefusal (r .plan) ≡ refusal 0 0)) (sym same)
-    (earlier-is-accepted s (ap (λ (r : Reading). r .refused) (sym same) ∙ e))
+    let a = tidy s e in
+    subst (λ (r : Reading). Sized (r .plan) × (planRefusal (r .plan) ≡ refusal 0 0)) (sym (a .same)) (earlier-is-accepted s (a .earlier))

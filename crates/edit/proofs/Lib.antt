@@ -1,0 +1,2 @@
+-- What is proved of edits beside the functions.
+pub mod Laws

@@ -1,0 +1,35 @@
+-- What the functions inside say beside the definitions: a file of which one record is replaced, and the chain as an array.
+-- Assumes nothing.
+use Prim.Native.Nat.{ℕ, _+_, _≤_}
+use mathlib.Core.Path.{_≡_}
+use mathlib.Core.List.{List, _∷_}
+use mathlib.Core.Bool.{Bool, cond, not}
+use lib.ListN.{length, take}
+use lib.Dec.{eqb}
+use Rattle.table.specs.Members.{has}
+use Rattle.plan.specs.Records.{recordAt}
+use Rattle.plan.specs.Chain.{chainOf}
+use Rattle.edit.specs.Laying.{withLink}
+use Rattle.edit.specs.Compaction.{source}
+
+-- record j of a file in which record k is replaced by the bytes r
+unfoldable pub replaced : List ℕ → ℕ → List ℕ → ℕ → List ℕ
+replaced s k r j = cond (eqb j k) r (recordAt s j)
+
+-- record j of a file in which the link of record q is set to l and record k is replaced by the bytes r
+unfoldable pub rewritten : List ℕ → ℕ → ℕ → ℕ → List ℕ → ℕ → List ℕ
+rewritten s q l k r j = cond (eqb j k) r (withLink s q l j)
+
+-- record 0 and the chain of a file, held as a count and an array
+pub record Lists (s : List ℕ) (count : ℕ) (records : List ℕ) : Type 0 where
+  pub front : take (count + 1) records ≡ 0 ∷ chainOf s
+  pub counted : count ≡ length (chainOf s)
+
+-- record k is none of the first `count + 1` of an array
+unfoldable pub unlistedIn : ℕ → List ℕ → ℕ → Bool
+unlistedIn count records k = not (has k (take (count + 1) records))
+
+-- the bytes of record 0 and of the n records of a file's chain, one after the other
+pub record Gathers (s : List ℕ) (n : ℕ) (store : List ℕ) : Type 0 where
+  pub counted : n ≡ length (chainOf s)
+  pub at : (k : ℕ) → k ≤ n → recordAt store k ≡ recordAt s (source s k)
