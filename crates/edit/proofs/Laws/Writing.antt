@@ -8,16 +8,16 @@ use native.Mathlib.Nat.{zero-add}
 use native.Mathlib.Decide.{ℕ-discrete}
 use native.Mathlib.Omega.{arith}
 use native.Mathlib.Numerals.{add-one}
-use lib.ListN.{length, getD, drop}
-use lib.Dec.{leb}
+use lib.ListN.{length, getD, drop, length-map}
+use lib.Dec.{leb, ltb}
 use borrow.Author.Tests.{leb-true, le-leb, lt-leb}
 use Rattle.table.specs.Sums.{nth}
 use Rattle.table.specs.Members.{has, placeIn}
 use Rattle.table.specs.Ranges.{highest}
 use Rattle.table.specs.Lines.{firstOf}
-use Rattle.table.proofs.Lists.{has-first, has-other}
+use Rattle.table.proofs.Lists.{has-first, has-other, place-some}
 use Rattle.plan.specs.Value.{reserved, reservedOf, planOf}
-use Rattle.plan.specs.Records.{recordAt, recordCount, periodIn, domainRecord}
+use Rattle.plan.specs.Records.{recordAt, recordCount, periodIn, numberAt, domainRecord}
 use Rattle.plan.specs.Chain.{noNumber, linkOf, chainOf, domainsIn}
 use Rattle.plan.specs.Writing.{nextIndex}
 use Rattle.plan.specs.declared.value.Domain.{Domain}
@@ -40,6 +40,10 @@ use Rattle.edit.proofs.Laws.Listing.{entry, entry-last}
 
 -- a file whose chain is listed
 module _ (s : List ℕ) (count : ℕ) (records : List ℕ) (v : Lists s count records) where
+  -- a domain is on the chain where its place is below the count
+  pub found : (n p : ℕ) → p ≡ placeIn n (numbersIn s) → ltb p count ≡ has n (numbersIn s)
+  found n p is = ap₂ ltb is (v .counted ∙ sym (length-map (chainOf s) (numberAt s))) ∙ place-some n (numbersIn s)
+
   -- where domain n is on the chain, two entries are its record and the one that names it; the writes to them are the dropping
   module _ (n p : ℕ) (is : p ≡ placeIn n (numbersIn s)) (h : p < count) where
     pub names-it : nth records p ≡ namer s n
@@ -74,11 +78,12 @@ module _ (s : List ℕ) (count : ℕ) (records : List ℕ) (v : Lists s count re
   new-is = same-highest (unlistedIn count records) (free s) (recordCount s) unlisted-free
 
   -- the two writes are the adding
-  pub add-writes : Whole (length s) → (d : Domain) (k : ℕ) → k ≡ newRecord s
-      → laid (rewritten s (nth records count) k k (domainRecord 0 d)) s ≡ laid (addedRecord s d) s
+  pub add-writes : Whole (length s) → (d : Domain) (k : ℕ) (b : List ℕ) → k ≡ newRecord s → b ≡ domainRecord 0 d
+      → laid (rewritten s (nth records count) k k b) s ≡ laid (addedRecord s d) s
   unfolding rewritten addedRecord
-  add-writes whole d k e =
-      ap₂ (λ (x y : ℕ). laid (rewritten s x y y (domainRecord 0 d)) s) (entry-last s count records v) e
+  add-writes whole d k b e is =
+      ap₂ (λ (x : ℕ) (l : List ℕ). laid (rewritten s x k k l) s) (entry-last s count records v) is
+      ∙ ap (λ (y : ℕ). laid (rewritten s (lastRecord s) y y (domainRecord 0 d)) s) e
       ∙ laid-agree s whole (rewritten s (lastRecord s) (newRecord s) (newRecord s) (domainRecord 0 d)) (addedRecord s d) (λ j i. refl)
 
   -- the records of the listed chain, gathered

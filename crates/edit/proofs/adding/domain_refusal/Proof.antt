@@ -78,26 +78,33 @@ all-reserved-requires c κs = search needs
 cast-sum : tie.Need-cast-sum
 cast-sum c = search needs
 
+-- what the domain reserves is far below what the sum's type holds
+little : (c : tie.Else4) → (let a = c .before .before .before .before .before .before .before .before .before .args in a .d .reservation + a .d .writebackreservation ≤ 131070)
+little c =
+    let a = c .before .before .before .before .before .before .before .before .before in
+    let s = small (c .before .before) in
+    let fits : a .args .t1 .period ≤ 65535 = search needs in
+    omega (arith, s .0, s .2, c .if4 .left)
+
 add-if5 : tie.Need-add-if5
-add-if5 c =
-    let s = small (c .before .before .before .before) in
-    let a = c .before .before .before .before .before .before .before .before .before .before .before in
-    omega (arith, s .0, s .2, c .before .before .if4 .left, search needs)
+add-if5 c = omega (arith, little (c .before .before))
 
 add-if5-2 : tie.Need-add-if5-2
 add-if5-2 c =
-    let s = small (c .before .before .before .before) in
-    omega (arith, s .0, s .2, c .before .before .if4 .left)
+    let fits : c .before .all-reserved .result ≤ 4294967295 = search needs in
+    omega (arith, little (c .before .before))
 
 returns-5 : tie.Need-returns-5
 returns-5 c =
-    let r = c .before .before .all-reserved .ensures in
-    sym (past4 (c .before .before .before) ∙ hit _ _ _ (lt-ltb _ _ (omega (arith, r, c .if5 .taken))))
+    let e = c .before .before .before in
+    let a = e .before .before .before .before .before .before .before .before .before .args in
+    sym (past4 e ∙ hit _ _ _ (lt-ltb (a .t1 .period) (reserved (a .t1) + (a .d .reservation + a .d .writebackreservation)) (omega (arith, c .before .before .all-reserved .ensures, c .if5 .taken))))
 
 returns-6 : tie.Need-returns-6
 returns-6 c =
-    let r = c .before .before .all-reserved .ensures in
-    sym (past4 (c .before .before .before) ∙ miss _ _ _ (le-ltb _ _ (omega (arith, r, c .if5 .left))))
+    let e = c .before .before .before in
+    let a = e .before .before .before .before .before .before .before .before .before .args in
+    sym (past4 e ∙ miss _ _ _ (le-ltb (a .t1 .period) (reserved (a .t1) + (a .d .reservation + a .d .writebackreservation)) (omega (arith, c .before .before .all-reserved .ensures, c .if5 .left))))
 
 pub domain-refusal-spec : {M : Type 1} → statement M
 domain-refusal-spec =

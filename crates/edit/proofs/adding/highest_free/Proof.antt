@@ -1,42 +1,57 @@
+-- `edit::adding::highest_free` meets its contract: what is left below gives what the whole gives.
+-- Assumes nothing.
+use mathlib.Core.Path.{_≡_, refl, sym, ap, _∙_}
+use mathlib.Core.Bool.{not}
+use Prim.Native.Nat.{ℕ, _-_, _≤_}
+use native.Mathlib.Omega.{arith}
+use borrow.Author.Needs.{needs}
+use Rattle.table.specs.Ranges.{highest}
+use Rattle.table.proofs.Searches.{high-none, high-on, high-here}
+use Rattle.edit.specs.Inner.{unlistedIn}
 use Rattle.edit.proofs.adding.highest_free.Statement.{statement}
 use Rattle.edit.proofs.adding.highest_free.Tie as tie
-use Rattle.edit.proofs.adding.highest_free.Reads as reads
-use Rattle.edit.proofs.adding.highest_free.Lts as lts
-use Rattle.edit.proofs.adding.is_listed.Reads as is-listed-reads
 
 abbrev Inv-loop : tie.InvT-loop
-Inv-loop l count k₀ k = ?
+Inv-loop l count k₀ k = (k ≤ count) × (highest (unlistedIn (l .count) (l .records)) k ≡ highest (unlistedIn (l .count) (l .records)) count)
 
 abbrev μ-loop : tie.MeasureT-loop
-μ-loop l count k₀ k = ?
+μ-loop l count k₀ k = k
 
--- src/adding.rt:92:5
 loop-holds : tie.Need-loop-holds Inv-loop μ-loop
-loop-holds c = ?
+loop-holds c = (search needs, refl)
 
--- src/adding.rt:93:9
 sub-k : tie.Need-sub-k Inv-loop μ-loop
-sub-k c = ?
+sub-k c = search needs
 
--- src/adding.rt:94:12
 is-listed-requires : tie.Need-is-listed-requires Inv-loop μ-loop
-is-listed-requires c κs = ?
+is-listed-requires c κs = c .before .before .pre
 
--- src/adding.rt:92:5
 loop-less : tie.Need-loop-less Inv-loop μ-loop
-loop-less c = ?
+loop-less c = omega (arith, c .before .before .loop-test .taken)
 
--- src/adding.rt:92:5
 loop-again : tie.Need-loop-again Inv-loop μ-loop
-loop-again c = ?
+unfolding unlistedIn
+loop-again c =
+    let v = c .before .before .before in
+    let a = v .before .args in
+    let low = c .before .before .loop-test .taken in
+    (omega (arith, v .loop .inv .0), sym (high-on (unlistedIn (a .l .count) (a .l .records)) (v .loop .k) low (ap not (sym (c .before .is-listed .ensures) ∙ c .if1 .taken))) ∙ v .loop .inv .1)
 
--- src/adding.rt:97:9
 returns : tie.Need-returns Inv-loop μ-loop
-returns c = ?
+unfolding unlistedIn
+returns c =
+    let v = c .before .before .before in
+    let a = v .before .args in
+    let low = c .before .before .loop-test .taken in
+    sym (high-here (unlistedIn (a .l .count) (a .l .records)) (v .loop .k) low (ap not (sym (c .before .is-listed .ensures) ∙ c .if1 .left))) ∙ v .loop .inv .1
 
--- src/adding.rt:87:1
 returns-2 : tie.Need-returns-2 Inv-loop μ-loop
-returns-2 c = ?
+returns-2 c =
+    let v = c .before in
+    let a = v .before .args in
+    let f = unlistedIn (a .l .count) (a .l .records) in
+    let none : v .loop .k ≡ 0 = omega (arith, c .loop-test .left) in
+    sym (ap (highest f) none ∙ high-none f) ∙ v .loop .inv .1
 
 pub highest-free-spec : {M : Type 1} → statement M
 highest-free-spec =

@@ -1,44 +1,57 @@
+-- `edit::compacting::compact` meets its contract: the file with its records moved is the compacted one.
+-- Assumes nothing.
+use mathlib.Core.Path.{_≡_, sym, ap, _∙_}
 use borrow.Author.Needs.{needs}
+use Rattle.plan.specs.Value.{refusal}
+use Rattle.plan.specs.Reading.{readWithLeftovers}
+use Rattle.plan.specs.declared.reading.Reading.{Reading}
+use Rattle.plan.proofs.Laws.Reading.{Good, good}
+use Rattle.edit.proofs.Laws.Compaction.{compacted-laid, refused-compact-keeps}
+use Rattle.edit.proofs.Laws.Listing.{few}
 use Rattle.edit.proofs.compacting.compact.Statement.{statement}
 use Rattle.edit.proofs.compacting.compact.Tie as tie
-use Rattle.edit.proofs.compacting.compact.Reads as reads
-use Rattle.edit.proofs.compacting.compact.Lts as lts
-use Rattle.edit.proofs.chain.list_chain.Reads as list-chain-reads
-use Rattle.edit.proofs.compacting.gather.Reads as gather-reads
-use Rattle.edit.proofs.compacting.move_records.Reads as move-records-reads
-use Rattle.plan.proofs.read_with_leftovers.Reads as read-with-leftovers-reads
 
--- src/compacting.rt:69:9
+-- the file is taken by the earlier rule
+ok : (c : tie.Then1) → readWithLeftovers (c .before .before .before .before .before .args .file .now) .refused ≡ 0
+ok c = ap (λ (r : Reading). r .refused) (sym (c .before .before .read-with-leftovers .ensures)) ∙ c .if1 .taken
+
+known : (c : tie.Then1) → Good (c .before .before .before .before .before .args .file .now)
+known c = good (c .before .before .before .before .before .args .file .now) (ok c)
+
 read-with-leftovers-requires : tie.Need-read-with-leftovers-requires
 read-with-leftovers-requires c κs = search needs
 
--- src/compacting.rt:71:13
 list-chain-requires : tie.Need-list-chain-requires
-list-chain-requires c κs = ?
+list-chain-requires c κs = known (c .before) .head
 
--- src/compacting.rt:72:13
 gather-requires : tie.Need-gather-requires
-gather-requires c κs = ?
+gather-requires c κs = (known (c .before .before .before) .whole .long, c .before .list-chain .ensures)
 
--- src/compacting.rt:73:9
 move-records-requires : tie.Need-move-records-requires
-move-records-requires c κs = ?
+move-records-requires c κs =
+    let l = c .before .before .before in
+    (few _ _ _ (l .list-chain .ensures), known (l .before .before) .whole, c .before .gather .ensures)
 
--- src/compacting.rt:65:1
 same-length : tie.Need-same-length
 same-length c = search needs
 
--- src/compacting.rt:65:1
 returns : tie.Need-returns
-returns c = ?
+returns c =
+    let e = c .before .before .before .before .before .before .before .before in
+    let s = e .before .before .before .before .before .args .file .now in (
+      ap (λ (r : Reading). refusal (r .refused) (r .place)) (e .before .before .read-with-leftovers .ensures),
+      c .before .before .move-records .ensures ∙ sym (compacted-laid s (ok e)),
+    )
 
--- src/compacting.rt:65:1
 same-length-2 : tie.Need-same-length-2
 same-length-2 c = search needs
 
--- src/compacting.rt:65:1
 returns-2 : tie.Need-returns-2
-returns-2 c = ?
+returns-2 c =
+    let r = c .before .before .read-with-leftovers .ensures in (
+      ap (λ (x : Reading). refusal (x .refused) (x .place)) r,
+      sym (refused-compact-keeps (c .before .before .before .before .before .args .file .now) (λ z. c .if1 .left (ap (λ (x : Reading). x .refused) r ∙ z))),
+    )
 
 pub compact-spec : {M : Type 1} → statement M
 compact-spec =

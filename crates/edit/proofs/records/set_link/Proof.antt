@@ -1,36 +1,39 @@
+-- `edit::records::set_link` meets its contract.
+-- Assumes nothing.
+use mathlib.Core.Path.{ap, _∙_}
+use mathlib.Core.List.{List}
+use Prim.Native.Nat.{ℕ}
+use native.Mathlib.Omega.{arith}
 use borrow.Author.Needs.{needs}
+use Rattle.edit.specs.Laying.{laid, relinked}
+use Rattle.edit.specs.Inner.{replaced}
+use Rattle.edit.proofs.Laws.Storing.{link-laid}
 use Rattle.edit.proofs.records.set_link.Statement.{statement}
 use Rattle.edit.proofs.records.set_link.Tie as tie
-use Rattle.edit.proofs.records.set_link.Reads as reads
-use Rattle.edit.proofs.records.set_link.Lts as lts
-use Rattle.edit.proofs.records.copy_record.Reads as copy-record-reads
-use Rattle.edit.proofs.records.relink.Reads as relink-reads
-use Rattle.edit.proofs.records.write_record.Reads as write-record-reads
-use Rattle.plan.proofs.record_part.Reads as record-part-reads
 
--- src/records.rt:53:25
 record-part-requires : tie.Need-record-part-requires
-record-part-requires c κs = search needs
+record-part-requires c κs = omega (arith, c .before .before .pre .1)
 
--- src/records.rt:53:9
 copy-record-requires : tie.Need-copy-record-requires
-copy-record-requires c κs = search needs
+copy-record-requires c κs = c .record-part .ensures .1
 
--- src/records.rt:54:9
 relink-requires : tie.Need-relink-requires
 relink-requires c κs = search needs
 
--- src/records.rt:55:5
 write-record-requires : tie.Need-write-record-requires
-write-record-requires c κs = search needs
+write-record-requires c κs = c .before .before .before .before .before .before .pre
 
--- src/records.rt:49:1
 same-length : tie.Need-same-length
 same-length c = search needs
 
--- src/records.rt:49:1
 returns : tie.Need-returns
-returns c = ?
+returns c =
+    let r = c .before .before .before .before in
+    let a = r .before .before .before .before .before in
+    let s = a .args .file .now in
+    let bytes = r .relink .ensures ∙ ap (relinked (a .args .q) (a .args .l)) (r .before .copy-record .ensures ∙ r .before .before .record-part .ensures .0) in
+    c .before .before .write-record .ensures ∙ ap (λ (b : List ℕ). laid (replaced s (a .args .q) b) s) bytes
+    ∙ link-laid s (a .args .q) (a .args .l) (a .pre .0)
 
 pub set-link-spec : {M : Type 1} → statement M
 set-link-spec =
