@@ -1,11 +1,10 @@
 -- `edit::dropping::place_of` meets its contract: the domain is none of those passed by.
 -- Assumes nothing.
-use mathlib.Core.Path.{_≡_, sym, ap, subst, _∙_}
-use Prim.Native.Nat.{ℕ, _+_, _-_, _*_, _≤_, _<_}
+use mathlib.Core.Path.{_≡_, sym, subst, _∙_}
+use Prim.Native.Nat.{ℕ, _+_, _-_, _≤_, _<_}
 use native.Mathlib.Omega.{arith}
 use borrow.Author.Needs.{needs}
 use lib.ListN.{length, length-map}
-use Rattle.table.specs.Sums.{nth}
 use Rattle.table.proofs.Lists.{place-here, place-none}
 use Rattle.plan.specs.Records.{numberAt}
 use Rattle.plan.specs.Chain.{chainOf}

@@ -1,0 +1,2 @@
+-- The outcomes, computed.
+pub mod Outcomes

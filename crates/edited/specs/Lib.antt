@@ -1,0 +1,2 @@
+-- Edits with what they answer and leave.
+pub mod Edits
