@@ -96,10 +96,10 @@ drops =
     ∷ draws (planA ++ (zero16 ++ junk)) (drop 3) 12 4
     ∷ []
 
--- the highest of two free records, one between the chain's, the first of a chain, and a domain with all that a record can state
+-- the highest of three free records, one between the chain's, the first of a chain, and a domain with all that a record can state
 abbrev adds : List Case
 adds =
-    makes (planA ++ (zero16 ++ zero16)) (add domain3) (head 4 1 ++ (one 2 ++ (two 4 ++ (zero16 ++ three 0))))
+    makes (planA ++ (zero16 ++ (zero16 ++ zero16))) (add domain3) (head 4 1 ++ (one 2 ++ (two 5 ++ (zero16 ++ (zero16 ++ three 0)))))
     ∷ makes (head 4 1 ++ (one 3 ++ (zero16 ++ two 0))) (add domain3) (head 4 1 ++ (one 3 ++ (three 0 ++ two 2)))
     ∷ makes (head 4 0 ++ (zero16 ++ zero16)) (add domain3) (head 4 2 ++ (zero16 ++ three 0))
     ∷ makes (planA ++ zero16) (add domain4) (head 4 1 ++ (one 2 ++ (two 3 ++ four 0)))
@@ -132,8 +132,16 @@ compactions =
     ∷ draws (head 4 1 ++ (one 2 ++ (two 4 ++ (junk ++ record16 0 3 0 2 0 0 0)))) compact 10 0
     ∷ []
 
+-- one edit after the other: to plan A with two spare records domain 3 is added, domain 1 is dropped, and the rest is compacted
+abbrev inTurn : List Case
+inTurn =
+    makes (planA ++ (zero16 ++ zero16)) (add domain3) (head 4 1 ++ (one 2 ++ (two 4 ++ (zero16 ++ three 0))))
+    ∷ makes (head 4 1 ++ (one 2 ++ (two 4 ++ (zero16 ++ three 0)))) (drop 1) (head 4 2 ++ (zero16 ++ (two 4 ++ (zero16 ++ three 0))))
+    ∷ makes (head 4 2 ++ (zero16 ++ (two 4 ++ (zero16 ++ three 0)))) compact (head 4 1 ++ (two 2 ++ (three 0 ++ (zero16 ++ zero16))))
+    ∷ []
+
 abbrev cases : List Case
-cases = drops ++ (adds ++ compactions)
+cases = drops ++ (adds ++ (compactions ++ inTurn))
 
 -- each edit has its outcome
 abbrev pub Edited : Type 0
