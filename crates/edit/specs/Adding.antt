@@ -15,7 +15,7 @@ use Rattle.plan.specs.Chain.{noNumber, chainOf, domainsIn}
 use Rattle.plan.specs.Reading.{acceptedReading, readPlan}
 use Rattle.plan.specs.declared.value.Domain.{Domain}
 use Rattle.plan.specs.declared.value.Refusal.{Refusal}
-use Rattle.edit.specs.Laying.{laid, withLink, OnlyTwo}
+use Rattle.edit.specs.Laying.{laid, rewritten, OnlyTwo}
 use Rattle.edit.specs.Dropping.{numbersIn}
 use Rattle.edit.specs.declared.adding.NewDomain.{NewDomain}
 
@@ -44,8 +44,8 @@ abbrev pub lastRecord : List ℕ → ℕ
 lastRecord s = lastOf 0 (chainOf s)
 
 -- "and puts it last on the chain": what record k becomes
-unfoldable pub addedRecord : List ℕ → Domain → ℕ → List ℕ
-addedRecord s d k = cond (eqb k (newRecord s)) (domainRecord 0 d) (withLink s (lastRecord s) (newRecord s) k)
+abbrev pub addedRecord : List ℕ → Domain → ℕ → List ℕ
+addedRecord s d = rewritten s (lastRecord s) (newRecord s) (newRecord s) (domainRecord 0 d)
 
 -- "Adding then checks 6, 7, 9 and 10"; Point 6: 11 "right after" 9, and 10 sums both reservations. Of the domain, under the
 -- period, whether its number is met, and the sum of what the chain's domains reserve.

@@ -16,7 +16,7 @@ use Rattle.plan.specs.Chain.{linkOf, chainOf}
 use Rattle.plan.specs.Reading.{acceptedReading, readPlan}
 use Rattle.plan.specs.declared.value.Plan.{Plan}
 use Rattle.plan.specs.declared.value.Refusal.{Refusal}
-use Rattle.edit.specs.Laying.{laid, blank, withLink, OnlyTwo}
+use Rattle.edit.specs.Laying.{laid, blank, rewritten, OnlyTwo}
 
 -- the domain numbers of a file's chain, in chain order
 abbrev pub numbersIn : List ℕ → List ℕ
@@ -30,8 +30,8 @@ abbrev pub namer : List ℕ → ℕ → ℕ
 namer s n = nth (0 ∷ chainOf s) (placeIn n (numbersIn s))
 
 -- "Dropping joins the chain over the record and zeroes it.": what record k becomes
-unfoldable pub droppedRecord : List ℕ → ℕ → ℕ → List ℕ
-droppedRecord s n k = cond (eqb k (holder s n)) blank (withLink s (namer s n) (linkOf s (holder s n)) k)
+abbrev pub droppedRecord : List ℕ → ℕ → ℕ → List ℕ
+droppedRecord s n = rewritten s (namer s n) (linkOf s (holder s n)) (holder s n) blank
 
 -- "Reading refusals come first"; "72 the domain to drop is not on the chain, checked after reading", place 0
 abbrev pub dropTable : List ℕ → ℕ → List (Line Refusal)

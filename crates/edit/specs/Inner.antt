@@ -9,16 +9,11 @@ use lib.Dec.{eqb}
 use Rattle.table.specs.Members.{has}
 use Rattle.plan.specs.Records.{recordAt}
 use Rattle.plan.specs.Chain.{chainOf}
-use Rattle.edit.specs.Laying.{withLink}
 use Rattle.edit.specs.Compaction.{source}
 
 -- record j of a file in which record k is replaced by the bytes r
 unfoldable pub replaced : List ℕ → ℕ → List ℕ → ℕ → List ℕ
 replaced s k r j = cond (eqb j k) r (recordAt s j)
-
--- record j of a file in which the link of record q is set to l and record k is replaced by the bytes r
-unfoldable pub rewritten : List ℕ → ℕ → ℕ → ℕ → List ℕ → ℕ → List ℕ
-rewritten s q l k r j = cond (eqb j k) r (withLink s q l j)
 
 -- record 0 and the chain of a file, held as a count and an array
 pub record Lists (s : List ℕ) (count : ℕ) (records : List ℕ) : Type 0 where

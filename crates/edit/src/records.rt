@@ -4,8 +4,8 @@ ghost use Prim.Native.Nat.{_<_};
 ghost use lib.ListN.{length};
 ghost use Rattle.plan.specs.Records.{recordCount};
 ghost use Rattle.plan.proofs.Laws.Heads.{Whole};
-ghost use Rattle.edit.specs.Laying.{laid, relinked, withLink};
-ghost use Rattle.edit.specs.Inner.{replaced, rewritten};
+ghost use Rattle.edit.specs.Laying.{laid, relinked, withLink, rewritten};
+ghost use Rattle.edit.specs.Inner.{replaced};
 
 // The sixteen bytes of a record, as an array.
 pub(crate) fn copy_record(b: &[u8]) -> [u8; 16]

@@ -4,9 +4,7 @@ use mathlib.Core.Path.{_≡_, refl, sym, ap, ap₂, subst, _∙_}
 use mathlib.Core.Bool.{Bool, true, false, not}
 use mathlib.Core.List.{List, [], _∷_, _++_, map, map-append}
 use Prim.Native.Nat.{ℕ, _+_, _≤_, _<_}
-use native.Mathlib.Decide.{ℕ-discrete}
 use native.Mathlib.Omega.{arith}
-use lib.ListN.{length}
 use lib.Dec.{eqb, leb}
 use borrow.Author.Tests.{eqb-true, eq-eqb, ne-eqb, leb-true, ltb-false, not-true, not-false}
 use Rattle.table.specs.Sums.{sum}
@@ -31,11 +29,11 @@ use Rattle.plan.proofs.Laws.Reading.{Good, good}
 use Rattle.plan.proofs.Laws.Leftovers.{Tidy, tidy}
 use Rattle.plan.proofs.Laws.Intact.{Intact, intact-chain, intact-read}
 use Rattle.plan.proofs.Laws.RoundTrip.{record-listed, domain-back}
-use Rattle.edit.specs.Laying.{laid, withLink, OnlyTwo}
+use Rattle.edit.specs.Laying.{laid, OnlyTwo}
 use Rattle.edit.specs.Dropping.{numbersIn}
 use Rattle.edit.specs.Adding.{free, newRecord, lastRecord, addedRecord, domainTable, domainRefusal, addTable, addRefusal, added, AddsDomain, RefusedAddKeeps}
-use Rattle.edit.proofs.Laws.Laying.{with-same, with-long}
-use Rattle.edit.proofs.Laws.Rereading.{Edited, laid-to, kept-length, kept-count, kept-period, kept-head, kept-domains, kept-numbers, kept-orderly, kept-link, new-link}
+use Rattle.edit.proofs.Laws.Laying.{rewritten-at, rewritten-same}
+use Rattle.edit.proofs.Laws.Rereading.{Edited, rewrites, only-two, laid-to, kept-count, kept-period, kept-head, kept-domains, kept-numbers, kept-orderly, kept-link, new-link}
 
 -- the record that is taken where there is a free one, and 0 where there is none
 module _ (s : List ℕ) where
@@ -99,31 +97,12 @@ module _ (s : List ℕ) (d : Domain) (v : Fits s d) where
   new : has i (0 ∷ xs) ≡ false
   new = not-has i 0 xs some (new-free s (v .free) .2)
 
-  module _ (k : ℕ) where
-    fresh : k ≡ i → addedRecord s d k ≡ domainRecord 0 d
-    unfolding addedRecord
-    fresh e = hit _ _ _ (eq-eqb k i e)
-
-    stays : (k ≡ i → ⊥) → addedRecord s d k ≡ withLink s last i k
-    unfolding addedRecord
-    stays n = miss _ _ _ (ne-eqb k i n)
-
-    untouched : (k ≡ i → ⊥) → (k ≡ last → ⊥) → addedRecord s d k ≡ recordAt s k
-    untouched e f = stays e ∙ with-same s last i k f
-
-    sixteen : k < recordCount s → length (addedRecord s d k) ≡ 16
-    sixteen h = go (ℕ-discrete k i)
-      where
-        go : Dec (k ≡ i) → length (addedRecord s d k) ≡ 16
-        go (yes e) = ap length (fresh e)
-        go (no n) = ap length (stays n) ∙ with-long s last i k h
-
   edit : Edited s (addedRecord s d) last i xs
-  edit = record { head = g .head; sixteen = sixteen; keeps = λ k h. stays k (differ k i (0 ∷ xs) h new); orderly = chain-orderly s }
+  edit = rewrites s last i i (domainRecord 0 d) xs (g .head) refl new (chain-orderly s)
 
   -- the new record
   there : recordAt t i ≡ domainRecord 0 d
-  there = laid-to edit i inside ∙ fresh i refl
+  there = laid-to edit i inside ∙ rewritten-at s last i i (domainRecord 0 d) i refl
 
   period : periodIn t ≡ periodIn s
   period = kept-period edit
@@ -175,7 +154,7 @@ module _ (s : List ℕ) (d : Domain) (v : Fits s d) where
   off k one h e =
       let m = has-neither k xs (i ∷ []) e in
       let other : k ≡ last → ⊥ = λ x. differ last k (0 ∷ xs) (last-in xs 0) (not-has k 0 xs (λ z. omega arith) (m .0)) (sym x) in
-      ap zeros (laid-to edit k h ∙ untouched k (has-not k i [] (m .1) .0) other) ∙ c .unused k one h (m .0)
+      ap zeros (laid-to edit k h ∙ rewritten-same s last i i (domainRecord 0 d) k (has-not k i [] (m .1) .0) other) ∙ c .unused k one h (m .0)
 
   after : readPlan t ≡ acceptedReading (withDomain (readPlan s .plan) d)
   after =
@@ -188,7 +167,7 @@ module _ (s : List ℕ) (d : Domain) (v : Fits s d) where
   chain-after = intact-chain intact
 
   touched : OnlyTwo s t i last
-  touched = record { long = kept-length edit; others = λ k h e f. laid-to edit k h ∙ untouched k e f }
+  touched = only-two s last i i (domainRecord 0 d) xs (g .head) refl
 
 -- what adding answers, line by line
 module _ (s : List ℕ) (d : Domain) where

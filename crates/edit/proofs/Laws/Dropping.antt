@@ -25,10 +25,10 @@ use Rattle.plan.proofs.Laws.Chains.{Leads, lead-to, lead-over, lead-join, lead-
 use Rattle.plan.proofs.Laws.Reading.{Good, good}
 use Rattle.plan.proofs.Laws.Leftovers.{Tidy, tidy}
 use Rattle.plan.proofs.Laws.Intact.{Intact, intact-chain, intact-read}
-use Rattle.edit.specs.Laying.{laid, blank, withLink, OnlyTwo}
+use Rattle.edit.specs.Laying.{laid, blank, OnlyTwo}
 use Rattle.edit.specs.Dropping.{numbersIn, holder, namer, droppedRecord, dropTable, dropRefusal, dropped, withoutDomain, DropsDomain, RefusedDropKeeps}
-use Rattle.edit.proofs.Laws.Laying.{with-same, with-long}
-use Rattle.edit.proofs.Laws.Rereading.{Edited, laid-to, kept-length, kept-count, kept-period, kept-head, kept-domains, kept-orderly, kept-link, new-link}
+use Rattle.edit.proofs.Laws.Laying.{rewritten-at, rewritten-same}
+use Rattle.edit.proofs.Laws.Rereading.{Edited, rewrites, only-two, laid-to, kept-count, kept-period, kept-head, kept-domains, kept-orderly, kept-link, new-link}
 use Rattle.edit.proofs.Laws.Without.{plan-without, reserved-without}
 
 -- a file that is read, of which domain n is on the chain
@@ -92,27 +92,10 @@ module _ (s : List ℕ) (n : ℕ) (ok : readPlan s .refused ≡ 0) (on : has n (
   not-left : has i (0 ∷ (a ++ b)) ≡ false
   not-left = let m = apart-mid a i b (ordered .apart) in not-has i 0 (a ++ b) (here .some) (neither-has i a b (m .0) (m .1))
 
-  module _ (k : ℕ) where
-    gone : k ≡ i → droppedRecord s n k ≡ blank
-    unfolding droppedRecord
-    gone e = hit _ _ _ (eq-eqb k i e)
-
-    stays : (k ≡ i → ⊥) → droppedRecord s n k ≡ withLink s (lastOf 0 a) (linkOf s i) k
-    unfolding droppedRecord
-    stays e = miss _ _ _ (ne-eqb k i e) ∙ ap (λ (q : ℕ). withLink s q (linkOf s i) k) prev-is
-
-    untouched : (k ≡ i → ⊥) → (k ≡ lastOf 0 a → ⊥) → droppedRecord s n k ≡ recordAt s k
-    untouched e f = stays e ∙ with-same s (lastOf 0 a) (linkOf s i) k f
-
-    sixteen : k < recordCount s → length (droppedRecord s n k) ≡ 16
-    sixteen h = go (ℕ-discrete k i)
-      where
-        go : Dec (k ≡ i) → length (droppedRecord s n k) ≡ 16
-        go (yes e) = ap length (gone e)
-        go (no e) = ap length (stays e) ∙ with-long s (lastOf 0 a) (linkOf s i) k h
-
   edit : Edited s (droppedRecord s n) (lastOf 0 a) (linkOf s i) (a ++ b)
-  edit = record { head = g .head; sixteen = sixteen; keeps = λ k h. stays k (differ k i (0 ∷ (a ++ b)) h not-left); orderly = left }
+  edit =
+      subst (λ (q : ℕ). Edited s (droppedRecord s n) q (linkOf s i) (a ++ b)) prev-is
+      (rewrites s (namer s n) (linkOf s i) i blank (a ++ b) (g .head) refl not-left left)
 
   -- the link over the record
   small : linkOf s i < 65536
@@ -183,12 +166,12 @@ module _ (s : List ℕ) (n : ℕ) (ok : readPlan s .refused ≡ 0) (on : has n (
   -- a record off the chain was off it before, or is the one that was zeroed
   off : (k : ℕ) → 1 ≤ k → k < recordCount s → has k (a ++ b) ≡ false → Dec (k ≡ i) → zeros (recordAt t k) ≡ true
   unfolding each
-  off k one h e (yes q) = ap zeros (laid-to edit k h ∙ gone k q)
+  off k one h e (yes q) = ap zeros (laid-to edit k h ∙ rewritten-at s (namer s n) (linkOf s i) i blank k q)
   off k one h e (no q) =
       let m = has-neither k a b e in
       let far : has k (chainOf s) ≡ false = ap (has k) split ∙ neither-has k a (i ∷ b) (m .0) (not-has k i b q (m .1)) in
-      let other : k ≡ lastOf 0 a → ⊥ = λ x. differ (lastOf 0 a) k (0 ∷ a) (last-in a 0) (not-has k 0 a (λ z. omega arith) (m .0)) (sym x) in
-      ap zeros (laid-to edit k h ∙ untouched k q other) ∙ c .unused k one h far
+      let other : k ≡ namer s n → ⊥ = λ x. differ (lastOf 0 a) k (0 ∷ a) (last-in a 0) (not-has k 0 a (λ z. omega arith) (m .0)) (sym (x ∙ prev-is)) in
+      ap zeros (laid-to edit k h ∙ rewritten-same s (namer s n) (linkOf s i) i blank k q other) ∙ c .unused k one h far
 
   after : readPlan t ≡ acceptedReading (withoutDomain (readPlan s .plan) n)
   after =
@@ -199,7 +182,7 @@ module _ (s : List ℕ) (n : ℕ) (ok : readPlan s .refused ≡ 0) (on : has n (
   chain-after = intact-chain intact ∙ sym (ap (without i) split ∙ without-mid a i b (ordered .apart))
 
   touched : OnlyTwo s t i (namer s n)
-  touched = record { long = kept-length edit; others = λ k h e f. laid-to edit k h ∙ untouched k e (λ q. f (q ∙ sym prev-is)) }
+  touched = only-two s (namer s n) (linkOf s i) i blank (a ++ b) (g .head) refl
 
 -- what dropping answers, line by line
 module _ (s : List ℕ) (n : ℕ) where

@@ -19,7 +19,7 @@ use Rattle.plan.specs.Reading.{noLength, headTable}
 use Rattle.plan.specs.Writing.{recordsFrom}
 use Rattle.plan.proofs.Laws.Heads.{Whole}
 use Rattle.plan.proofs.Laws.Filing.{records-none, records-first, records-length, records-at, records-same}
-use Rattle.edit.specs.Laying.{laid, relinked, withLink}
+use Rattle.edit.specs.Laying.{laid, relinked, withLink, rewritten}
 use Rattle.edit.proofs.Laws.Records.{record-long, linkIn, link-in, relinked-tail, relinked-head, relinked-long, relinked-link}
 
 -- a file of whole records is made of them
@@ -118,6 +118,26 @@ module _ (s : List ℕ) (q l : ℕ) where
               let h = relinked-head k l (recordAt s k) (record-long s k inside) z in
               (ap (take 2) (with-link e) ∙ h .0, ap (drop 4) (with-link e) ∙ h .1)
           go (no n) = (ap (take 2) (with-same n), ap (drop 4) (with-same n))
+
+  -- and where record i is replaced beside
+  module _ (i : ℕ) (b : List ℕ) (k : ℕ) where
+    pub rewritten-at : k ≡ i → rewritten s q l i b k ≡ b
+    unfolding rewritten
+    rewritten-at e = hit _ _ _ (eq-eqb k i e)
+
+    pub rewritten-other : (k ≡ i → ⊥) → rewritten s q l i b k ≡ withLink s q l k
+    unfolding rewritten
+    rewritten-other n = miss _ _ _ (ne-eqb k i n)
+
+    pub rewritten-same : (k ≡ i → ⊥) → (k ≡ q → ⊥) → rewritten s q l i b k ≡ recordAt s k
+    rewritten-same n m = rewritten-other n ∙ with-same k m
+
+    pub rewritten-long : length b ≡ 16 → k < recordCount s → length (rewritten s q l i b k) ≡ 16
+    rewritten-long long inside = go (ℕ-discrete k i)
+      where
+        go : Dec (k ≡ i) → length (rewritten s q l i b k) ≡ 16
+        go (yes e) = ap length (rewritten-at e) ∙ long
+        go (no n) = ap length (rewritten-other n) ∙ with-long k inside
 
   -- the links of any file that has this record
   module _ (t : List ℕ) (k : ℕ) (is : recordAt t k ≡ withLink s q l k) where

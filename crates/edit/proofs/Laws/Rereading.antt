@@ -1,14 +1,14 @@
 -- What a file laid anew keeps of the file that it was: record 0 and the records of a list, but for one link.
 -- Assumes nothing.
 use mathlib.Core.Path.{_≡_, refl, sym, ap, subst, _∙_}
-use mathlib.Core.Bool.{true}
+use mathlib.Core.Bool.{true, false}
 use mathlib.Core.List.{List, _∷_, map}
 use Prim.Native.Nat.{ℕ, _/_, _<_}
 use native.Mathlib.Omega.{arith}
 use lib.ListN.{length, take, drop}
 use Rattle.table.specs.Members.{has}
 use Rattle.table.specs.Lines.{firstOf}
-use Rattle.table.proofs.Lists.{has-first, has-later, map-same, Apart}
+use Rattle.table.proofs.Lists.{has-first, has-later, differ, map-same, Apart}
 use Rattle.plan.specs.Records.{recordAt, recordCount, periodIn, domainAt, numberAt}
 use Rattle.plan.specs.Chain.{linkOf, domainsAt}
 use Rattle.plan.specs.Reading.{headTable}
@@ -17,9 +17,9 @@ use Rattle.plan.proofs.Laws.Heads.{Whole}
 use Rattle.plan.proofs.Laws.Holding.{Fine}
 use Rattle.plan.proofs.Laws.Reading.{head-whole}
 use Rattle.plan.proofs.Laws.Chains.{Takeable, Orderly, orderly-inside}
-use Rattle.edit.specs.Laying.{laid, withLink}
+use Rattle.edit.specs.Laying.{laid, withLink, rewritten, OnlyTwo}
 use Rattle.edit.proofs.Laws.Records.{domain-same, unlisted-same}
-use Rattle.edit.proofs.Laws.Laying.{laid-length, laid-at, period-same, head-same, with-tail, with-head, link-kept, link-set}
+use Rattle.edit.proofs.Laws.Laying.{laid-length, laid-at, period-same, head-same, with-tail, with-head, rewritten-other, rewritten-same, rewritten-long, link-kept, link-set}
 
 -- a record that states the same in another file of the same period
 pub takeable-same : (s t : List ℕ) (i j : ℕ) → periodIn t ≡ periodIn s → drop 2 (recordAt t j) ≡ drop 2 (recordAt s i) → (j ≡ 0 → ⊥)
@@ -106,3 +106,23 @@ module _ {s : List ℕ} {f : ℕ → List ℕ} {q l : ℕ} {xs : List ℕ} (v : 
 
   pub new-link : (j : ℕ) → has j (0 ∷ xs) ≡ true → j ≡ q → l < 65536 → linkOf t j ≡ l
   new-link j h e small = link-set s q l t j (kept-at j (inside-of j h) h) e (inside-of j h) small
+
+-- where record i, which is neither record 0 nor one of xs, is replaced and one link is set
+module _ (s : List ℕ) (q l i : ℕ) (b xs : List ℕ) (head : firstOf (headTable s) 0 ≡ 0) (long : length b ≡ 16) where
+  pub rewrites : has i (0 ∷ xs) ≡ false → Orderly s xs → Edited s (rewritten s q l i b) q l xs
+  rewrites off orderly =
+      record {
+        head = head;
+        sixteen = λ k h. rewritten-long s q l i b k long h;
+        keeps = λ k h. rewritten-other s q l i b k (differ k i (0 ∷ xs) h off);
+        orderly = orderly;
+      }
+
+  pub only-two : OnlyTwo s (laid (rewritten s q l i b) s) i q
+  only-two =
+      let w = head-whole s head in
+      let sixteen : (k : ℕ) → k < recordCount s → length (rewritten s q l i b k) ≡ 16 = λ k h. rewritten-long s q l i b k long h in
+      record {
+        long = laid-length s w (rewritten s q l i b) sixteen;
+        others = λ k h n m. laid-at s w (rewritten s q l i b) sixteen k h ∙ rewritten-same s q l i b k n m;
+      }

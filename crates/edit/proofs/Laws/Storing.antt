@@ -17,10 +17,10 @@ use Rattle.plan.specs.Records.{recordAt, recordCount}
 use Rattle.plan.specs.Writing.{recordsFrom}
 use Rattle.plan.proofs.Laws.Heads.{Whole}
 use Rattle.plan.proofs.Laws.Filing.{records-last, Filled, filled-none, filled-more, filled-all}
-use Rattle.edit.specs.Laying.{laid, relinked, withLink}
+use Rattle.edit.specs.Laying.{laid, relinked, withLink, rewritten}
 use Rattle.edit.proofs.Laws.Records.{relinked-first, relinked-other}
 use Rattle.edit.proofs.Laws.Laying.{laid-agree, laid-length, laid-at, with-long}
-use Rattle.edit.specs.Inner.{replaced, rewritten}
+use Rattle.edit.specs.Inner.{replaced}
 
 -- the two bytes of a link
 module _ (k l : ℕ) (b : List ℕ) (long : length b ≡ 16) where

@@ -23,18 +23,16 @@ use Rattle.plan.specs.Writing.{nextIndex}
 use Rattle.plan.specs.declared.value.Domain.{Domain}
 use Rattle.plan.specs.declared.value.Plan.{Plan}
 use Rattle.plan.proofs.Laws.Values.{within}
-use Rattle.plan.proofs.Laws.Heads.{Whole}
 use Rattle.plan.proofs.Laws.Holding.{Holds}
 use Rattle.plan.proofs.Laws.Links.{numbers-met}
 use Rattle.plan.proofs.Laws.Reading.{chain-held}
 use Rattle.plan.proofs.Laws.Filing.{Filled, filled-all, records-at}
-use Rattle.edit.specs.Laying.{laid, blank, relinked}
+use Rattle.edit.specs.Laying.{laid, blank, relinked, rewritten}
 use Rattle.edit.specs.Dropping.{numbersIn, holder, namer, droppedRecord}
 use Rattle.edit.specs.Adding.{free, newRecord, lastRecord, addedRecord, domainTable, domainRefusal}
 use Rattle.edit.specs.Compaction.{source, movedRecord}
-use Rattle.edit.specs.Inner.{Lists, unlistedIn, rewritten, Gathers}
+use Rattle.edit.specs.Inner.{Lists, unlistedIn, Gathers}
 use Rattle.edit.proofs.Laws.Records.{record-long}
-use Rattle.edit.proofs.Laws.Laying.{laid-agree}
 use Rattle.edit.proofs.Laws.Compaction.{source-in}
 use Rattle.edit.proofs.Laws.Listing.{entry, entry-last}
 
@@ -52,13 +50,11 @@ module _ (s : List ℕ) (count : ℕ) (records : List ℕ) (v : Lists s count re
     pub holds-it : nth records (p + 1) ≡ holder s n
     holds-it = entry s count records v (p + 1) (omega arith) ∙ ap (nth (0 ∷ chainOf s)) (add-one p) ∙ ap (nth (chainOf s)) is
 
-    pub drop-writes : Whole (length s) → (l : ℕ) → l ≡ linkOf s (nth records (p + 1))
+    pub drop-writes : (l : ℕ) → l ≡ linkOf s (nth records (p + 1))
         → laid (rewritten s (nth records p) l (nth records (p + 1)) blank) s ≡ laid (droppedRecord s n) s
-    unfolding rewritten droppedRecord
-    drop-writes whole l e =
+    drop-writes l e =
         ap₂ (λ (x y : ℕ). laid (rewritten s x y (nth records (p + 1)) blank) s) names-it (e ∙ ap (linkOf s) holds-it)
         ∙ ap (λ (x : ℕ). laid (rewritten s (namer s n) (linkOf s (holder s n)) x blank) s) holds-it
-        ∙ laid-agree s whole (rewritten s (namer s n) (linkOf s (holder s n)) (holder s n) blank) (droppedRecord s n) (λ k i. refl)
 
   -- what is not listed is free, and so the highest is the new record
   unlisted-free : (k : ℕ) → unlistedIn count records k ≡ free s k
@@ -78,13 +74,11 @@ module _ (s : List ℕ) (count : ℕ) (records : List ℕ) (v : Lists s count re
   new-is = same-highest (unlistedIn count records) (free s) (recordCount s) unlisted-free
 
   -- the two writes are the adding
-  pub add-writes : Whole (length s) → (d : Domain) (k : ℕ) (b : List ℕ) → k ≡ newRecord s → b ≡ domainRecord 0 d
+  pub add-writes : (d : Domain) (k : ℕ) (b : List ℕ) → k ≡ newRecord s → b ≡ domainRecord 0 d
       → laid (rewritten s (nth records count) k k b) s ≡ laid (addedRecord s d) s
-  unfolding rewritten addedRecord
-  add-writes whole d k b e is =
+  add-writes d k b e is =
       ap₂ (λ (x : ℕ) (l : List ℕ). laid (rewritten s x k k l) s) (entry-last s count records v) is
       ∙ ap (λ (y : ℕ). laid (rewritten s (lastRecord s) y y (domainRecord 0 d)) s) e
-      ∙ laid-agree s whole (rewritten s (lastRecord s) (newRecord s) (newRecord s) (domainRecord 0 d)) (addedRecord s d) (λ j i. refl)
 
   -- the records of the listed chain, gathered
   pub gathers : 16 ≤ length s → (b store : List ℕ) (k : ℕ) → Filled (λ (j : ℕ). recordAt s (source s j)) b store k → k ≡ count + 1 → Gathers s count store

@@ -161,7 +161,7 @@ returns-4 c =
     let told = add-taken s d (ok e) (fits e2) (new-some s (λ z. e3 .if3 .left (taken h ∙ z))) in (
       sym told,
       c .before .before .rewrite .ensures
-          ∙ add-writes s _ _ (l .list-chain .ensures) (known e .whole) d k _ (taken h) (r .new-record .ensures)
+          ∙ add-writes s _ _ (l .list-chain .ensures) d k _ (taken h) (r .new-record .ensures)
           ∙ sym (added-laid s d (ap (λ (x : Refusal). x .refused) told)),
     )
 

@@ -118,7 +118,7 @@ returns-3 c =
     let told = drop-taken s (a .number) (ok f) on in (
       sym told,
       c .before .before .rewrite .ensures
-          ∙ drop-writes s _ _ v (a .number) (p .result) (p .ensures) (e .if2 .left) (known f .whole) _ (r .link-of .ensures)
+          ∙ drop-writes s _ _ v (a .number) (p .result) (p .ensures) (e .if2 .left) _ (r .link-of .ensures)
           ∙ sym (dropped-laid s (a .number) (ap (λ (x : Refusal). x .refused) told)),
     )
 
