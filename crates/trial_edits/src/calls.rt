@@ -16,13 +16,6 @@ pub struct Call {
     pub domain: NewDomain,
 }
 
-// How a domain is drawn: its faults, of which 1 is 6, 2 is 7, 4 is 9, 8 is 11 and 16 is 10, and whether the sum of all
-// reservations comes to P, or P + 1 where 10 is a fault.
-struct Way {
-    faults: u32,
-    exact: bool,
-}
-
 pub fn domain(number: u64, q: u64, r: u64, w: u64, v: u64, marked: bool) -> NewDomain {
     NewDomain {
         number,
@@ -120,7 +113,7 @@ fn left(a: Answer) -> u32 {
 }
 
 // A domain whose reservations come to so much, of which at least so much is Q where it can be.
-fn reserving(a: Answer, all: u32, least: u32, number: u32, seed: u32) -> NewDomain {
+fn reserving(a: Answer, all: u32, least: u32, seed: u32) -> NewDomain {
     let period = a.period;
     let q = lower(
         std::num::wrapping_add_u32(
@@ -132,7 +125,7 @@ fn reserving(a: Answer, all: u32, least: u32, number: u32, seed: u32) -> NewDoma
     let v = less(all, q);
     let w = std::num::wrapping_add_u32(v, draw::upto(seed, 908, less(period, v)));
     domain(
-        words::wider(number),
+        0,
         words::wider(q),
         words::wider(draw::upto(seed, 909, period)),
         words::wider(w),
@@ -141,24 +134,24 @@ fn reserving(a: Answer, all: u32, least: u32, number: u32, seed: u32) -> NewDoma
     )
 }
 
-// A domain that fits, or draws 10.
-fn summed(a: Answer, w: Way, number: u32, seed: u32) -> NewDomain {
+// A domain that fits, or draws 10; exact where the sum of all reservations comes to P, or to P + 1.
+fn summed(a: Answer, faults: u32, exact: bool, seed: u32) -> NewDomain {
     let most = left(a);
-    if w.faults / 16 % 2 == 1 {
-        let more = if w.exact {
+    if faults / 16 % 2 == 1 {
+        let more = if exact {
             0
         } else {
             draw::upto(seed, 911, less(a.period, 1))
         };
         let all = std::num::wrapping_add_u32(most, std::num::wrapping_add_u32(more, 1));
-        return reserving(a, all, 1, number, seed);
+        return reserving(a, all, 1, seed);
     }
-    let all = if w.exact {
+    let all = if exact {
         most
     } else {
         draw::upto(seed, 912, most)
     };
-    reserving(a, all, 0, number, seed)
+    reserving(a, all, 0, seed)
 }
 
 // 9: one of Q, R and W above P.
@@ -210,22 +203,16 @@ fn number_of(a: Answer, faults: u32, seed: u32) -> u64 {
     }
 }
 
-fn adding_of(a: Answer, w: Way, seed: u32) -> Call {
-    let d = summed(a, w, 0, seed);
-    let mut after = with_amounts(d, w.faults, a.period, seed);
-    after.number = number_of(a, w.faults, seed);
+// Adding with faults, of which 1 is 6, 2 is 7, 4 is 9, 8 is 11 and 16 is 10.
+fn add(file: &[u8], faults: u32, exact: bool, seed: u32) -> Call {
+    let a = model_plans::read_with_leftovers(file);
+    let d = summed(a, faults, exact, seed);
+    let mut after = with_amounts(d, faults, a.period, seed);
+    after.number = number_of(a, faults, seed);
     Call {
         what: ADD,
         domain: after,
     }
-}
-
-fn add(file: &[u8], faults: u32, exact: bool, seed: u32) -> Call {
-    adding_of(
-        model_plans::read_with_leftovers(file),
-        Way { faults, exact },
-        seed,
-    )
 }
 
 // Dropping: a domain of the plan, or a number above 16.

@@ -8,7 +8,6 @@ use model_edits::Wanted;
 use model_plans::words;
 use plan::Refusal;
 use trial_kit::bytes;
-use trial_kit::tally::Verdict;
 use trial_kit::tally::both;
 use trial_kit::values;
 
@@ -42,33 +41,6 @@ fn framed(file: &[u8]) -> [u8; 1104] {
     all
 }
 
-// What stands in a buffer where a file was lent.
-fn unframed(frame: &[u8; 1104]) -> [u8; 1040] {
-    let mut file = [0u8; 1040];
-    let mut k: usize = 0;
-    while k < 1040 {
-        file[k] = bytes::get(frame, 32 + k);
-        k += 1;
-    }
-    file
-}
-
-// The bytes of a buffer over those of a file, as many as there are.
-pub fn copy(file: &mut [u8], from: &[u8]) {
-    let mut k: usize = 0;
-    while k < file.len() {
-        file[k] = bytes::get(from, k);
-        k += 1;
-    }
-}
-
-fn in_words(r: Refusal) -> Told {
-    Told {
-        number: wide8(r.refused),
-        place: values::wide(r.place),
-    }
-}
-
 fn wanted(d: NewDomain) -> Wanted {
     Wanted {
         number: d.number,
@@ -80,13 +52,13 @@ fn wanted(d: NewDomain) -> Wanted {
     }
 }
 
-fn library_does(file: &mut [u8], c: Call) -> Told {
+fn library_does(file: &mut [u8], c: Call) -> Refusal {
     let d = c.domain;
     let what = c.what;
     match what {
-        calls::DROP => in_words(edit::drop_domain(file, d.number)),
-        calls::ADD => in_words(edit::add_domain(file, d)),
-        _ => in_words(edit::compact(file)),
+        calls::DROP => edit::drop_domain(file, d.number),
+        calls::ADD => edit::add_domain(file, d),
+        _ => edit::compact(file),
     }
 }
 
@@ -183,8 +155,8 @@ fn compact_already(file: &[u8]) -> bool {
     let end = 32 + bytes::least(file.len(), 1040);
     let mut a = framed(file);
     let b = framed(file);
-    let t = library_does(&mut a[32..end], calls::compact());
-    both(t.number == 0, same_bytes(&a, &b))
+    let r = edit::compact(&mut a[32..end]);
+    both(r.refused == 0, same_bytes(&a, &b))
 }
 
 // Whether a file holds after an edit what it has to: every byte as before where it was refused, and else the plan due, with two
@@ -203,55 +175,30 @@ fn holds(before: &[u8], after: &[u8], c: Call, number: u32) -> bool {
     both(kept, reads(after, a.period, words_due(domains, c)))
 }
 
-// The place that the model tells of an edit.
-pub fn model_place(file: &[u8], c: Call) -> u32 {
+// What the model tells of an edit, and whether the library tells and does the same.
+pub struct Outcome {
+    pub number: u32,
+    pub place: u32,
+    pub same: bool,
+}
+
+// Tries an edit: the library on a file lent out of a larger buffer, the model on the file itself.
+pub fn tried(file: &mut [u8], c: Call, seen: &mut [u32]) -> Outcome {
     let end = 32 + bytes::least(file.len(), 1040);
-    let mut b = framed(file);
-    let m = model_does(&mut b[32..end], c);
-    m.place
-}
-
-// The same of a file that is the first bytes of what is given.
-fn holds_in(before: &[u8], made: &[u8], c: Call, number: u32) -> bool {
-    let size = bytes::least(before.len(), made.len());
-    holds(before, &made[0..size], c, number)
-}
-
-// An edit by both: the refusals, whether place, bytes and guards are the same, and what the file is then.
-struct Pair {
-    library: u32,
-    model: u32,
-    same: bool,
-    made: [u8; 1040],
-    due: [u8; 1040],
-}
-
-fn done(file: &[u8], c: Call) -> Pair {
-    let end = 32 + bytes::least(file.len(), 1040);
-    let mut a = framed(file);
-    let mut b = framed(file);
-    let l = library_does(&mut a[32..end], c);
-    let m = model_does(&mut b[32..end], c);
-    let alike = both(l.number == m.number, l.place == m.place);
-    Pair {
-        library: l.number,
-        model: m.number,
-        same: both(alike, same_bytes(&a, &b)),
-        made: unframed(&a),
-        due: unframed(&b),
-    }
-}
-
-// Tries an edit, which the file then has as the model made it.
-pub fn tried(file: &mut [u8], c: Call, seen: &mut [u32]) -> Verdict {
-    let d = done(file, c);
-    let made = d.made;
-    let due = d.due;
-    let right = holds_in(file, &made, c, d.library);
-    seen::count(file, &due, c, d.model, seen);
-    copy(file, &due);
-    Verdict {
-        number: d.model,
-        same: both(d.same, right),
+    let old = framed(file);
+    let mut made = framed(file);
+    let l = library_does(&mut made[32..end], c);
+    let m = model_does(file, c);
+    let due = framed(file);
+    let right = holds(&old[32..end], file, c, m.number);
+    seen::count(&old[32..end], file, c, m.number, seen);
+    let alike = both(
+        wide8(l.refused) == m.number,
+        values::wide(l.place) == m.place,
+    );
+    Outcome {
+        number: m.number,
+        place: m.place,
+        same: all3(alike, same_bytes(&made, &due), right),
     }
 }

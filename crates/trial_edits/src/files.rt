@@ -108,7 +108,8 @@ fn each_refusal(file: &mut [u8], case: u32, seed: u32) -> u32 {
 }
 
 // Good files over bytes that are any, or records of domains that name each other.
-fn over(file: &mut [u8], style: u32, seed: u32) -> u32 {
+fn over(file: &mut [u8], kind: u32, seed: u32) -> u32 {
+    let style = if kind == 9 { bytes::ANY } else { bytes::SMALL };
     bytes::fill(file, files::LONGEST, seed, style);
     good(file, seed)
 }
@@ -134,22 +135,31 @@ fn filled(file: &mut [u8], kind: u32, case: u32, seed: u32) -> u32 {
     size
 }
 
+// A good file, or a full one, in turn.
+fn good_or_full(file: &mut [u8], case: u32, seed: u32) -> u32 {
+    if case / 32 % 2 == 0 {
+        good(file, seed)
+    } else {
+        full(file, draw::upto(seed, 6, 15), seed)
+    }
+}
+
+// A full file, or one without a chain, in turn.
+fn full_or_empty(file: &mut [u8], case: u32, seed: u32) -> u32 {
+    if case % 2 == 0 {
+        full(file, case / 2, seed)
+    } else {
+        empty(file, case / 2, seed)
+    }
+}
+
 // Puts the file of a case and answers its length.
 pub fn put(file: &mut [u8], kind: u32, case: u32, seed: u32) -> u32 {
     match kind {
-        6 => if case / 32 % 2 == 0 {
-            good(file, seed)
-        } else {
-            full(file, draw::upto(seed, 6, 15), seed)
-        },
-        7 => if case % 2 == 0 {
-            full(file, case / 2, seed)
-        } else {
-            empty(file, case / 2, seed)
-        },
+        6 => good_or_full(file, case, seed),
+        7 => full_or_empty(file, case, seed),
         8 => each_refusal(file, case, seed),
-        9 => over(file, bytes::ANY, seed),
-        10 => over(file, bytes::SMALL, seed),
+        9 | 10 => over(file, kind, seed),
         11 => files::one_byte(file, case, seed),
         12..=14 => filled(file, kind, case, seed),
         15 => files::lengths(file, case, seed),

@@ -2,6 +2,7 @@
 ghost use Prim.Native.Nat.{_<_, _≤_};
 use super::calls;
 use super::calls::Call;
+use super::report::say_kind;
 use edit::NewDomain;
 use model_edits::adding;
 use model_edits::chain;
@@ -12,21 +13,29 @@ use trial_kit::lines::say_nth;
 use trial_kit::report;
 use trial_kit::tally::both;
 
-// The counts are lent, in the order of the names below. Three rows of 15 say how often each edit was done, and refused with 1 to
-// 12, 71 and 72. Five rows of five say for 6, 7, 9, 11 and 10 which of 7, 9, 11, 10 and 71 would have been told after it.
-const DROPPED: usize = 45;
+// The counts are lent. The first are of the kind at hand: compared, accepted, refused, differ; then of all: compared, differ, and
+// the kind and the case of the first difference.
+const ALL: usize = 4;
 
-const TAKEN: usize = 49;
+const FIRST: usize = 6;
 
-const LATER: usize = 53;
+// Then those of the names below, in their order. Three rows of 15 say how often each edit was done, and refused with 1 to 12, 71
+// and 72. Five rows of five say for 6, 7, 9, 11 and 10 which of 7, 9, 11, 10 and 71 would have been told after it.
+const EDITS: usize = 8;
 
-const SUMS: usize = 78;
+const DROPPED: usize = 53;
 
-const COMPACTED: usize = 80;
+const TAKEN: usize = 57;
 
-const CUT: usize = 84;
+const LATER: usize = 61;
 
-const ADDED: usize = 87;
+const SUMS: usize = 86;
+
+const COMPACTED: usize = 88;
+
+const CUT: usize = 92;
+
+const ADDED: usize = 95;
 
 fn value(seen: &[u32], k: usize) -> u32 {
     if k < seen.len() { seen[k] } else { 0 }
@@ -39,6 +48,55 @@ fn raise(seen: &mut [u32], k: usize) {
             seen[k] = x + 1;
         }
     }
+}
+
+fn put(seen: &mut [u32], k: usize, x: u32) {
+    if k < seen.len() {
+        seen[k] = x;
+    }
+}
+
+// A number that stands in a count where the first difference is known, or else a new one.
+fn first_or(seen: &[u32], k: usize, x: u32) -> u32 {
+    if value(seen, ALL + 1) == 0 {
+        x
+    } else {
+        value(seen, k)
+    }
+}
+
+fn note_difference(seen: &mut [u32], kind: u32, case: u32) {
+    put(seen, FIRST, first_or(seen, FIRST, kind));
+    put(seen, FIRST + 1, first_or(seen, FIRST + 1, case));
+    raise(seen, 3);
+    raise(seen, ALL + 1);
+}
+
+// Counts a case, with the refusal that the model tells and whether all is the same.
+pub fn counted(seen: &mut [u32], kind: u32, case: u32, number: u32, same: bool) {
+    raise(seen, 0);
+    raise(seen, ALL);
+    raise(seen, if number == 0 { 1 } else { 2 });
+    if !same {
+        note_difference(seen, kind, case);
+    }
+}
+
+// What was compared of the kind at hand, after its name; the next kind begins.
+pub fn kind_counts(seen: &mut [u32]) {
+    report::say_number(b": compared ", value(seen, 0));
+    report::say_number(b", accepted ", value(seen, 1));
+    report::say_number(b", refused ", value(seen, 2));
+    report::say_number(b", differ ", value(seen, 3));
+    report::say(b"\n");
+    clear_kind(seen);
+}
+
+fn clear_kind(seen: &mut [u32]) {
+    put(seen, 0, 0);
+    put(seen, 1, 0);
+    put(seen, 2, 0);
+    put(seen, 3, 0);
 }
 
 fn raise_if(seen: &mut [u32], k: usize, yes: bool) {
@@ -96,15 +154,27 @@ fn taking(file: &[u8], records: u32) -> usize
     if lower == records { 3 } else { 2 }
 }
 
-// A number to drop that is one of the plan where it is cut to 8, 16 or 32 bits.
-fn count_cut(file: &[u8], number: u64, seen: &mut [u32]) {
-    raise_if(seen, CUT, chain::position(file, number % 256) != 0);
-    raise_if(seen, CUT + 1, chain::position(file, number % 65536) != 0);
-    raise_if(
-        seen,
-        CUT + 2,
-        chain::position(file, number % 4294967296) != 0,
-    );
+// Whether a number that is refused is one of the plan where it is cut to 32 bits, to 16 or to 8; 3 for none of these.
+fn cut(file: &[u8], number: u64) -> usize
+    ensures { λ r. ⌜ r ≤ 3 ⌝ }
+{
+    if chain::position(file, number % 4294967296) != 0 {
+        return 0;
+    }
+    if chain::position(file, number % 65536) != 0 {
+        return 1;
+    }
+    if chain::position(file, number % 256) != 0 {
+        2
+    } else {
+        3
+    }
+}
+
+fn raise_cut(seen: &mut [u32], way: usize) {
+    if way < 3 {
+        raise(seen, CUT + way);
+    }
 }
 
 fn count_drop(file: &[u8], number: u64, refused: u32, seen: &mut [u32]) {
@@ -113,7 +183,7 @@ fn count_drop(file: &[u8], number: u64, refused: u32, seen: &mut [u32]) {
             let at = standing(chain::position(file, number), chain::records(file));
             raise(seen, DROPPED + at);
         }
-        72 => count_cut(file, number, seen),
+        72 => raise_cut(seen, cut(file, number)),
         _ => (),
     }
 }
@@ -171,13 +241,13 @@ fn comes_to(a: Answer, d: NewDomain, more: u64) -> bool
     std::num::wrapping_add_u64(t.reservations, own) == words::wider(a.period) + more
 }
 
-// A domain that was added: where, whether marked, whether with a writeback reservation, and whether P is reached.
+// A domain that was added: where, whether P is reached, whether marked, and whether with a writeback reservation.
 fn count_added(file: &[u8], a: Answer, d: NewDomain, seen: &mut [u32]) {
     let at = taking(file, chain::records(file));
     raise(seen, TAKEN + at);
     raise_if(seen, SUMS, comes_to(a, d, 0));
-    raise_if(seen, ADDED, d.marked);
-    raise_if(seen, ADDED + 1, d.writebackreservation > 0);
+    let sort = words::one_if(d.marked) + 2 * words::one_if(d.writebackreservation > 0);
+    raise(seen, ADDED + sort as usize);
 }
 
 fn count_add(file: &[u8], d: NewDomain, refused: u32, seen: &mut [u32]) {
@@ -217,7 +287,7 @@ fn count_compact(file: &[u8], after: &[u8], refused: u32, seen: &mut [u32]) {
 pub fn count(file: &[u8], after: &[u8], c: Call, number: u32, seen: &mut [u32]) {
     let d = c.domain;
     let what = c.what;
-    raise(seen, 15 * (what % 3) as usize + column(number));
+    raise(seen, EDITS + 15 * (what % 3) as usize + column(number));
     match what {
         calls::DROP => count_drop(file, d.number, number, seen),
         calls::ADD => count_add(file, d, number, seen),
@@ -227,20 +297,20 @@ pub fn count(file: &[u8], after: &[u8], c: Call, number: u32, seen: &mut [u32]) 
 
 fn say_name(k: usize) {
     say_nth(
-        b"dropping: done, and refused with 1 to 12, 71 and 72\n\
-        adding: done, and refused with 1 to 12, 71 and 72\n\
-        compacting: done, and refused with 1 to 12, 71 and 72\n\
-        records dropped: the only one, the first, a middle one, the last\n\
-        records taken: of an empty chain, before, between and behind the chain's records\n\
-        refused with 6 where 7, 9, 11, 10, 71 would be told too\n\
-        refused with 7 where 7, 9, 11, 10, 71 would be told too\n\
-        refused with 9 where 7, 9, 11, 10, 71 would be told too\n\
-        refused with 11 where 7, 9, 11, 10, 71 would be told too\n\
-        refused with 10 where 7, 9, 11, 10, 71 would be told too\n\
-        added up to a sum of P, and refused with 10 at P + 1\n\
-        compacted: no chain, one at the front already, one moved, one moved over leftovers\n\
-        refused with 72 for a number that is on the chain where it is cut to 8, 16, 32 bits\n\
-        added with a mark, and with a writeback reservation\n",
+        b"dropped, and refused with 1 to 12, 71, 72\n\
+        added, and refused with 1 to 12, 71, 72\n\
+        compacted, and refused with 1 to 12, 71, 72\n\
+        dropped the only record, the first, a middle one, the last\n\
+        added to an empty chain, and before, between, behind its records\n\
+        6 where 7, 9, 11, 10, 71 hold too\n\
+        7 where 7, 9, 11, 10, 71 hold too\n\
+        9 where 7, 9, 11, 10, 71 hold too\n\
+        11 where 7, 9, 11, 10, 71 hold too\n\
+        10 where 7, 9, 11, 10, 71 hold too\n\
+        added up to P, and 10 at P + 1\n\
+        compacted no chain, one at the front, one moved, one moved over leftovers\n\
+        72 for a number that is there when cut to 32, 16, 8 bits\n\
+        added plain, marked, with a writeback reservation, with both\n",
         k,
     );
 }
@@ -251,7 +321,7 @@ fn width(name: usize) -> usize
 {
     match name {
         0..=2 => 15,
-        3 | 4 | 11 => 4,
+        3 | 4 | 11 | 13 => 4,
         5..=9 => 5,
         12 => 3,
         _ => 2,
@@ -260,7 +330,7 @@ fn width(name: usize) -> usize
 
 // A name, and so many counts from one on.
 fn say_counts(seen: &[u32], name: usize, from: usize, counts: usize)
-    requires { ⌜ (from < 90) × (counts ≤ 15) ⌝ }
+    requires { ⌜ (from < 100) × (counts ≤ 15) ⌝ }
 {
     say_name(name);
     report::say(b":");
@@ -273,12 +343,25 @@ fn say_counts(seen: &[u32], name: usize, from: usize, counts: usize)
 }
 
 pub fn lines(seen: &[u32]) {
-    let mut from: usize = 0;
+    let mut from: usize = EDITS;
     let mut name: usize = 0;
     while name < 14 {
         let counts = width(name);
-        say_counts(seen, name, from % 90, counts);
+        say_counts(seen, name, from % 100, counts);
         from = std::num::wrapping_add_usize(from, counts);
         name += 1;
     }
+}
+
+// The first difference, if there is one, and the total.
+pub fn last_lines(seen: &[u32]) {
+    if value(seen, ALL + 1) != 0 {
+        report::say(b"first difference: ");
+        say_kind(value(seen, FIRST));
+        report::say_number(b", case ", value(seen, FIRST + 1));
+        report::say(b"\n");
+    }
+    report::say_number(b"all: compared ", value(seen, ALL));
+    report::say_number(b", differ ", value(seen, ALL + 1));
+    report::say(b"\n");
 }

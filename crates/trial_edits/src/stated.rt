@@ -16,36 +16,25 @@
 use super::calls;
 use super::calls::Call;
 use super::compare;
-use super::compare::copy;
+use super::seen;
 use trial_kit::bytes;
 use trial_kit::draw;
 use trial_kit::files::LONGEST;
 use trial_kit::given::put_in_file;
 use trial_kit::lines;
-use trial_kit::report;
-use trial_kit::tally;
-use trial_kit::tally::Tally;
-use trial_kit::tally::Verdict;
 use trial_kit::tally::both;
+use trial_kit::tally::more;
 
 // The kind of all stated cases.
 const STATED: u32 = 0;
 
-// Where the reader stands: the case's number and where its name begins, the bytes so far of the plan file, and the edit.
+// Where the reader stands: the case's number and where its name begins, the bytes so far of the plan file, and where the line of
+// the edit begins.
 struct Stand {
     case: u32,
     named: usize,
     size: usize,
-    call: Call,
-}
-
-fn begun(case: u32, named: usize) -> Stand {
-    Stand {
-        case,
-        named,
-        size: 0,
-        call: calls::compact(),
-    }
+    called: usize,
 }
 
 fn wide(x: u8) -> u64 {
@@ -117,22 +106,30 @@ fn call_of(given: &[u8], at: usize) -> Call {
     }
 }
 
-fn with_call(s: Stand, call: Call) -> Stand {
-    Stand {
-        case: s.case,
-        named: s.named,
-        size: s.size,
-        call,
-    }
-}
-
 fn with_size(s: Stand, size: usize) -> Stand {
     let mut after = s;
     after.size = size;
     after
 }
 
-fn put_due(due: &mut [u8], given: &[u8], at: usize) {
+// An edit is named: the file due is the plan file, until more is said.
+fn with_call(s: Stand, at: usize, file: &[u8], due: &mut [u8]) -> Stand {
+    copy(due, file);
+    let mut after = s;
+    after.called = at;
+    after
+}
+
+// The bytes of one buffer over those of another.
+fn copy(to: &mut [u8], from: &[u8]) {
+    let mut k: usize = 0;
+    while k < to.len() {
+        to[k] = bytes::get(from, k);
+        k += 1;
+    }
+}
+
+fn put_record_due(due: &mut [u8], given: &[u8], at: usize) {
     bytes::put_record(
         due,
         small(given, at, 1),
@@ -145,97 +142,95 @@ fn put_due(due: &mut [u8], given: &[u8], at: usize) {
     );
 }
 
-fn next_case(s: Stand, at: usize, file: &mut [u8]) -> Stand {
-    bytes::fill(file, LONGEST, 0, bytes::ZEROS);
-    begun(tally::more(s.case), std::num::wrapping_add_usize(at, 5))
+fn put_byte_due(due: &mut [u8], given: &[u8], at: usize) {
+    bytes::put(
+        due,
+        small(given, at, 1) as usize,
+        draw::low(small(given, at, 2)),
+    );
 }
 
-// The stand after a line, which may put bytes into the plan file or the file due.
-fn stand_after(s: Stand, given: &[u8], at: usize, file: &mut [u8], due: &mut [u8]) -> Stand {
-    match lines::byte(given, std::num::wrapping_add_usize(at, 1)) {
-        b'a' => return next_case(s, at, file),
-        b'i' | b't' => return with_size(s, put_in_file(file, s.size, given, at)),
-        b'r' | b'd' | b'o' => {
-            copy(due, file);
-            return with_call(s, call_of(given, at));
-        }
-        b'h' => put_due(due, given, at),
-        b'y' => bytes::put(
-            due,
-            small(given, at, 1) as usize,
-            draw::low(small(given, at, 2)),
-        ),
+// The next case; its name is behind the word.
+fn next_case(s: Stand, at: usize, file: &mut [u8]) -> Stand {
+    bytes::fill(file, LONGEST, 0, bytes::ZEROS);
+    Stand {
+        case: more(s.case),
+        named: std::num::wrapping_add_usize(at, 5),
+        size: 0,
+        called: at,
+    }
+}
+
+// The second byte of a line.
+fn sort(given: &[u8], at: usize) -> u8 {
+    lines::byte(given, std::num::wrapping_add_usize(at, 1))
+}
+
+// What a line says of the file due.
+fn put_due(given: &[u8], at: usize, due: &mut [u8]) {
+    match sort(given, at) {
+        b'h' => put_record_due(due, given, at),
+        b'y' => put_byte_due(due, given, at),
         _ => (),
     }
-    s
+}
+
+// The stand after a line, which may begin the plan file anew or put bytes into it, or name an edit.
+fn stand_after(s: Stand, given: &[u8], at: usize, file: &mut [u8], due: &mut [u8]) -> Stand {
+    match sort(given, at) {
+        b'a' => next_case(s, at, file),
+        b'i' | b't' => with_size(s, put_in_file(file, s.size, given, at)),
+        b'r' | b'd' | b'o' => with_call(s, at, file, due),
+        _ => s,
+    }
 }
 
 // The edit by the library and the model, which have to tell and to leave what is due; the file due is the plan file then.
-fn compared(
-    s: Stand,
-    given: &[u8],
-    at: usize,
-    file: &mut [u8],
-    due: &[u8],
-    seen: &mut [u32],
-) -> Verdict {
+fn compared(s: Stand, given: &[u8], at: usize, file: &mut [u8], due: &[u8], seen: &mut [u32]) {
     let size = bytes::least(s.size, file.len());
-    let call = s.call;
-    let place = compare::model_place(&file[0..size], call);
-    let v = compare::tried(&mut file[0..size], call, seen);
-    let as_due = both(
-        both(
-            v.number == small(given, at, 1),
-            place == small(given, at, 2),
-        ),
-        check::same(file, due),
+    let t = compare::tried(&mut file[0..size], call_of(given, s.called), seen);
+    let told = both(
+        t.number == small(given, at, 1),
+        t.place == small(given, at, 2),
     );
+    let same = both(both(t.same, told), check::same(file, due));
+    seen::counted(seen, STATED, s.case, t.number, same);
     copy(file, due);
-    Verdict {
-        number: v.number,
-        same: both(v.same, as_due),
-    }
 }
 
 // The counts of a case are printed before the next begins.
-fn closed(t: Tally, s: Stand, given: &[u8]) -> Tally {
+fn close(s: Stand, given: &[u8], seen: &mut [u32]) {
     if s.case > 0 {
         lines::say_line(given, s.named);
-        report::counts_line(t);
+        seen::kind_counts(seen);
     }
-    tally::next_kind(t)
 }
 
-// The tally after a line.
-fn tally_after(
-    t: Tally,
-    s: Stand,
-    given: &[u8],
-    at: usize,
-    file: &mut [u8],
-    due: &[u8],
-    seen: &mut [u32],
-) -> Tally {
-    match lines::byte(given, std::num::wrapping_add_usize(at, 1)) {
-        b'a' => closed(t, s, given),
-        b'u' => tally::counted(t, STATED, s.case, compared(s, given, at, file, due, seen)),
-        _ => t,
+// What a line asks to be compared or printed.
+fn answer(s: Stand, given: &[u8], at: usize, file: &mut [u8], due: &[u8], seen: &mut [u32]) {
+    match sort(given, at) {
+        b'a' => close(s, given, seen),
+        b'u' => compared(s, given, at, file, due, seen),
+        _ => (),
     }
 }
 
 // All cases of the text. Its last line begins a case without a name, so that the one before is printed.
-pub fn cases(before: Tally, given: &[u8], seen: &mut [u32]) -> Tally {
+pub fn cases(given: &[u8], seen: &mut [u32]) {
     let mut file = [0u8; 1040];
     let mut due = [0u8; 1040];
-    let mut t = before;
-    let mut s = begun(0, 0);
+    let mut s = Stand {
+        case: 0,
+        named: 0,
+        size: 0,
+        called: 0,
+    };
     let mut at: usize = 0;
     while at < given.len() {
-        let tally = tally_after(t, s, given, at, &mut file, &due, seen);
-        let stand = stand_after(s, given, at, &mut file, &mut due);
-        t = tally;
-        s = stand;
+        answer(s, given, at, &mut file, &due, seen);
+        put_due(given, at, &mut due);
+        let next = stand_after(s, given, at, &mut file, &mut due);
+        s = next;
         at = lines::after_line(given, at);
     }
-    t
 }
