@@ -1,6 +1,5 @@
 // The calls of each kind: which edit, and with which numbers, by what the model reads in the file.
 use edit::NewDomain;
-use model_plans::Answer;
 use model_plans::words;
 use trial_kit::draw;
 
@@ -97,102 +96,48 @@ fn absent(domains: [u32; 96], seed: u32) -> u32 {
     first + 1
 }
 
-fn lower(a: u32, b: u32) -> u32 {
-    if a < b { a } else { b }
-}
-
 fn less(a: u32, b: u32) -> u32 {
     if b <= a { a - b } else { 0 }
 }
 
-// What the plan leaves of its period.
-fn left(a: Answer) -> u32 {
-    let domains = a.domains;
-    let t = words::count(a.period, domains);
-    less(a.period, (t.reservations % 65537) as u32)
-}
-
-// A domain whose reservations come to so much, of which at least so much is Q where it can be.
-fn reserving(a: Answer, all: u32, least: u32, seed: u32) -> NewDomain {
-    let period = a.period;
-    let q = lower(
-        std::num::wrapping_add_u32(
-            least,
-            draw::upto(seed, 907, less(lower(period, all), least)),
-        ),
-        all,
-    );
-    let v = less(all, q);
-    let w = std::num::wrapping_add_u32(v, draw::upto(seed, 908, less(period, v)));
-    domain(
-        0,
-        words::wider(q),
-        words::wider(draw::upto(seed, 909, period)),
-        words::wider(w),
-        words::wider(v),
-        draw::upto(seed, 910, 1) == 0,
-    )
-}
-
-// A domain that fits, or draws 10; exact where the sum of all reservations comes to P, or to P + 1.
-fn summed(a: Answer, faults: u32, exact: bool, seed: u32) -> NewDomain {
-    let most = left(a);
-    if faults / 16 % 2 == 1 {
-        let more = if exact {
-            0
-        } else {
-            draw::upto(seed, 911, less(a.period, 1))
-        };
-        let all = std::num::wrapping_add_u32(most, std::num::wrapping_add_u32(more, 1));
-        return reserving(a, all, 1, seed);
+// What both reservations come to: at most what is left of the period, or more where 10 is a fault; exact where the sum of all
+// comes to P, or to P + 1.
+fn reserved(left: u32, period: u32, faults: u32, exact: bool, seed: u32) -> u32 {
+    let over = faults / 16 % 2 == 1;
+    let more = draw::upto(seed, 911, less(period, 1));
+    if exact {
+        return std::num::wrapping_add_u32(left, words::one_if(over));
     }
-    let all = if exact {
-        most
+    if over {
+        std::num::wrapping_add_u32(left, std::num::wrapping_add_u32(more, 1))
     } else {
-        draw::upto(seed, 912, most)
-    };
-    reserving(a, all, 0, seed)
-}
-
-// 9: one of Q, R and W above P.
-fn with_above(d: NewDomain, period: u32, seed: u32) -> NewDomain {
-    let mut after = d;
-    let value = large(period, seed);
-    match draw::upto(seed, 913, 2) {
-        0 => after.reservation = value,
-        1 => after.reclaimcap = value,
-        _ => after.writebackcap = value,
+        draw::upto(seed, 912, left)
     }
-    after
 }
 
-// 11: the writeback reservation above W, mostly by 1.
-fn with_uncapped(d: NewDomain, period: u32, seed: u32) -> NewDomain {
-    let mut after = d;
-    after.writebackreservation = if draw::upto(seed, 914, 1) == 0 {
+// An amount, or a large value in its place.
+fn amount(large_one: bool, x: u32, period: u32, seed: u32) -> u64 {
+    if large_one {
+        large(period, seed)
+    } else {
+        words::wider(x)
+    }
+}
+
+// The writeback reservation, or where 11 is a fault one above W, mostly by 1.
+fn reservation(faults: u32, v: u32, w: u32, period: u32, seed: u32) -> u64 {
+    if faults / 8 % 2 == 0 {
+        return words::wider(v);
+    }
+    if draw::upto(seed, 914, 1) == 0 {
         large(period, draw::draw(seed, 915))
     } else {
-        std::num::wrapping_add_u64(d.writebackcap, 1)
-    };
-    after
-}
-
-fn with_amounts(d: NewDomain, faults: u32, period: u32, seed: u32) -> NewDomain {
-    let next = if faults / 4 % 2 == 1 {
-        with_above(d, period, seed)
-    } else {
-        d
-    };
-    if faults / 8 % 2 == 1 {
-        with_uncapped(next, period, seed)
-    } else {
-        next
+        words::wider(w) + 1
     }
 }
 
 // The number to add: one that the plan has not, one that it has, or none of 1 to 16.
-fn number_of(a: Answer, faults: u32, seed: u32) -> u64 {
-    let domains = a.domains;
+fn number_of(domains: [u32; 96], faults: u32, seed: u32) -> u64 {
     if faults % 2 == 1 {
         return wide_number(absent(domains, seed), seed);
     }
@@ -206,12 +151,29 @@ fn number_of(a: Answer, faults: u32, seed: u32) -> u64 {
 // Adding with faults, of which 1 is 6, 2 is 7, 4 is 9, 8 is 11 and 16 is 10.
 fn add(file: &[u8], faults: u32, exact: bool, seed: u32) -> Call {
     let a = model_plans::read_with_leftovers(file);
-    let d = summed(a, faults, exact, seed);
-    let mut after = with_amounts(d, faults, a.period, seed);
-    after.number = number_of(a, faults, seed);
+    let domains = a.domains;
+    let period = a.period;
+    let t = words::count(period, domains);
+    let left = less(period, (t.reservations % 65537) as u32);
+    let all = reserved(left, period, faults, exact, seed);
+    let v = draw::upto(seed, 907, if all < period { all } else { period });
+    let w = std::num::wrapping_add_u32(v, draw::upto(seed, 908, less(period, v)));
+    let r = draw::upto(seed, 909, period);
+    let which = if faults / 4 % 2 == 1 {
+        draw::upto(seed, 913, 2)
+    } else {
+        3
+    };
     Call {
         what: ADD,
-        domain: after,
+        domain: domain(
+            number_of(domains, faults, seed),
+            amount(which == 0, less(all, v), period, seed),
+            amount(which == 1, r, period, seed),
+            amount(which == 2, w, period, seed),
+            reservation(faults, v, w, period, seed),
+            draw::upto(seed, 910, 1) == 0,
+        ),
     }
 }
 

@@ -8,6 +8,7 @@ use model_edits::Wanted;
 use model_plans::words;
 use plan::Refusal;
 use trial_kit::bytes;
+use trial_kit::tally::Verdict;
 use trial_kit::tally::both;
 use trial_kit::values;
 
@@ -72,41 +73,27 @@ fn model_does(file: &mut [u8], c: Call) -> Told {
     }
 }
 
-// The words of a plan without a domain.
-fn without(domains: [u32; 96], n: u32) -> [u32; 96] {
-    let mut after = words::with_mark(words::with_domain(domains, n, 0, 0, 0, 0), n, 0);
-    let flag = ((n % 17 + 15) % 16 * 6) as usize;
-    after[flag] = 0;
-    after
-}
-
 fn word(x: u64) -> u32 {
     (x % 4294967296) as u32
 }
 
-// The words of a plan with a domain more.
-fn with_added(domains: [u32; 96], d: NewDomain) -> [u32; 96] {
+// The words due after an edit that is not refused: with the domain, or with zeros in its place, since the numbers of a domain to
+// drop are zeros but for its own.
+fn words_due(domains: [u32; 96], c: Call) -> [u32; 96] {
+    if c.what == calls::COMPACT {
+        return domains;
+    }
+    let d = c.domain;
     let n = word(d.number);
     let q = word(d.reservation);
     let r = word(d.reclaimcap);
     let w = word(d.writebackcap);
     let v = word(d.writebackreservation);
-    words::with_mark(
-        words::with_domain(domains, n, q, r, w, v),
-        n,
-        words::one_if(d.marked),
-    )
-}
-
-// The words due after an edit that is not refused.
-fn words_due(domains: [u32; 96], c: Call) -> [u32; 96] {
-    let d = c.domain;
-    let what = c.what;
-    match what {
-        calls::DROP => without(domains, word(d.number)),
-        calls::ADD => with_added(domains, d),
-        _ => domains,
-    }
+    let with = words::with_domain(domains, n, q, r, w, v);
+    let mut after = words::with_mark(with, n, words::one_if(d.marked));
+    let flag = ((n % 17 + 15) % 16 * 6) as usize;
+    after[flag] = words::one_if(c.what == calls::ADD);
+    after
 }
 
 fn same(a: [u32; 96], b: [u32; 96]) -> bool {
@@ -175,11 +162,10 @@ fn holds(before: &[u8], after: &[u8], c: Call, number: u32) -> bool {
     both(kept, reads(after, a.period, words_due(domains, c)))
 }
 
-// What the model tells of an edit, and whether the library tells and does the same.
+// What the model tells of an edit, with its place, and whether the library tells and does the same.
 pub struct Outcome {
-    pub number: u32,
+    pub verdict: Verdict,
     pub place: u32,
-    pub same: bool,
 }
 
 // Tries an edit: the library on a file lent out of a larger buffer, the model on the file itself.
@@ -197,8 +183,10 @@ pub fn tried(file: &mut [u8], c: Call, seen: &mut [u32]) -> Outcome {
         values::wide(l.place) == m.place,
     );
     Outcome {
-        number: m.number,
+        verdict: Verdict {
+            number: m.number,
+            same: all3(alike, same_bytes(&made, &due), right),
+        },
         place: m.place,
-        same: all3(alike, same_bytes(&made, &due), right),
     }
 }

@@ -2,6 +2,8 @@
 // and prints what was compared.
 use trial_kit::bytes::least;
 use trial_kit::draw;
+use trial_kit::tally;
+use trial_kit::tally::Tally;
 
 mod calls;
 mod compare;
@@ -30,53 +32,81 @@ fn cases(kind: u32) -> u32 {
     }
 }
 
-// The edits of one file, one after the other.
-fn edit_all(kind: u32, case: u32, seed: u32, file: &mut [u8], seen: &mut [u32]) {
-    let most = calls::edits(kind);
-    let mut k: u32 = 0;
-    while k < most {
-        let drawn = draw::draw(seed, std::num::wrapping_add_u32(k, 1000));
-        let call = calls::drawn(file, kind, case, k, drawn);
-        let t = compare::tried(file, call, seen);
-        seen::counted(seen, kind, case, t.number, t.same);
-        k += 1;
-    }
+// Edit k of a file.
+fn edit_one(
+    t: Tally,
+    kind: u32,
+    case: u32,
+    k: u32,
+    seed: u32,
+    file: &mut [u8],
+    seen: &mut [u32],
+) -> Tally {
+    let drawn = draw::draw(seed, std::num::wrapping_add_u32(k, 1000));
+    let o = compare::tried(file, calls::drawn(file, kind, case, k, drawn), seen);
+    let v = o.verdict;
+    tally::counted(t, kind, case, v)
 }
 
-fn try_file(kind: u32, case: u32, seen: &mut [u32]) {
+// The edits of one file, one after the other.
+fn edit_all(
+    before: Tally,
+    kind: u32,
+    case: u32,
+    seed: u32,
+    file: &mut [u8],
+    seen: &mut [u32],
+) -> Tally {
+    let most = calls::edits(kind);
+    let mut t = before;
+    let mut k: u32 = 0;
+    while k < most {
+        let next = edit_one(t, kind, case, k, seed, file, seen);
+        t = next;
+        k += 1;
+    }
+    t
+}
+
+fn try_file(t: Tally, kind: u32, case: u32, seen: &mut [u32]) -> Tally {
     let seed = draw::draw(kind, case);
     let mut file = [0u8; 1040];
     let size = files::put(&mut file, kind, case, seed);
     let end = least(size as usize, 1040);
-    edit_all(kind, case, seed, &mut file[0..end], seen);
+    edit_all(t, kind, case, seed, &mut file[0..end], seen)
 }
 
-fn try_kind(kind: u32, seen: &mut [u32]) {
+fn try_kind(before: Tally, kind: u32, seen: &mut [u32]) -> Tally {
+    let mut t = tally::next_kind(before);
     let most = cases(kind);
     let mut case: u32 = 0;
     while case < most {
-        try_file(kind, case, seen);
+        let next = try_file(t, kind, case, seen);
+        t = next;
         case += 1;
     }
-    report::say_kind(kind);
-    seen::kind_counts(seen);
+    report::kind_line(t, kind);
+    t
 }
 
-fn try_kinds(seen: &mut [u32]) {
+fn try_kinds(before: Tally, seen: &mut [u32]) -> Tally {
+    let mut t = before;
     let mut kind: u32 = 1;
     while kind < KINDS {
-        try_kind(kind, seen);
+        let next = try_kind(t, kind, seen);
+        t = next;
         kind += 1;
     }
+    t
 }
 
 // The stated cases and those of all kinds, given the text that states them.
 fn try_all(given: &[u8]) {
-    let mut seen = [0u32; 100];
-    stated::cases(given, &mut seen);
-    try_kinds(&mut seen);
+    let mut seen = [0u32; 92];
+    let before = stated::cases(tally::start(), given, &mut seen);
+    let t = try_kinds(before, &mut seen);
     seen::lines(&seen);
-    seen::last_lines(&seen);
+    report::last_lines(t);
 }
 
 fn main() {

@@ -1,7 +1,9 @@
-// The names of the kinds.
+// The lines of the kinds, and the last ones.
 use trial_kit::lines;
+use trial_kit::report;
+use trial_kit::tally::Tally;
 
-pub fn say_kind(kind: u32) {
+fn say_kind(kind: u32) {
     lines::say_nth(
         b"stated cases\n\
         dropping from chains in any order\n\
@@ -23,4 +25,20 @@ pub fn say_kind(kind: u32) {
         sixteen domains, dropped and added\n",
         kind as usize,
     );
+}
+
+pub fn kind_line(t: Tally, kind: u32) {
+    say_kind(kind);
+    report::counts_line(t);
+}
+
+// The total, and where something differed its first kind and case.
+pub fn last_lines(t: Tally) {
+    if t.alldiffer != 0 {
+        report::say(b"first difference: ");
+        say_kind(t.firstkind);
+        report::say_number(b", case ", t.firstcase);
+        report::say(b"\n");
+    }
+    report::total_line(t);
 }

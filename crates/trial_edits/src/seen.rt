@@ -2,7 +2,6 @@
 ghost use Prim.Native.Nat.{_<_, _≤_};
 use super::calls;
 use super::calls::Call;
-use super::report::say_kind;
 use edit::NewDomain;
 use model_edits::adding;
 use model_edits::chain;
@@ -13,29 +12,21 @@ use trial_kit::lines::say_nth;
 use trial_kit::report;
 use trial_kit::tally::both;
 
-// The counts are lent. The first are of the kind at hand: compared, accepted, refused, differ; then of all: compared, differ, and
-// the kind and the case of the first difference.
-const ALL: usize = 4;
+// The counts are lent, in the order of the names below. Three rows of 15 say how often each edit was done, and refused with 1 to
+// 12, 71 and 72. Five rows of five say for 6, 7, 9, 11 and 10 which of 7, 9, 11, 10 and 71 would have been told after it.
+const DROPPED: usize = 45;
 
-const FIRST: usize = 6;
+const TAKEN: usize = 49;
 
-// Then those of the names below, in their order. Three rows of 15 say how often each edit was done, and refused with 1 to 12, 71
-// and 72. Five rows of five say for 6, 7, 9, 11 and 10 which of 7, 9, 11, 10 and 71 would have been told after it.
-const EDITS: usize = 8;
+const LATER: usize = 53;
 
-const DROPPED: usize = 53;
+const SUMS: usize = 78;
 
-const TAKEN: usize = 57;
+const COMPACTED: usize = 80;
 
-const LATER: usize = 61;
+const CUT: usize = 84;
 
-const SUMS: usize = 86;
-
-const COMPACTED: usize = 88;
-
-const CUT: usize = 92;
-
-const ADDED: usize = 95;
+const ADDED: usize = 88;
 
 fn value(seen: &[u32], k: usize) -> u32 {
     if k < seen.len() { seen[k] } else { 0 }
@@ -48,55 +39,6 @@ fn raise(seen: &mut [u32], k: usize) {
             seen[k] = x + 1;
         }
     }
-}
-
-fn put(seen: &mut [u32], k: usize, x: u32) {
-    if k < seen.len() {
-        seen[k] = x;
-    }
-}
-
-// A number that stands in a count where the first difference is known, or else a new one.
-fn first_or(seen: &[u32], k: usize, x: u32) -> u32 {
-    if value(seen, ALL + 1) == 0 {
-        x
-    } else {
-        value(seen, k)
-    }
-}
-
-fn note_difference(seen: &mut [u32], kind: u32, case: u32) {
-    put(seen, FIRST, first_or(seen, FIRST, kind));
-    put(seen, FIRST + 1, first_or(seen, FIRST + 1, case));
-    raise(seen, 3);
-    raise(seen, ALL + 1);
-}
-
-// Counts a case, with the refusal that the model tells and whether all is the same.
-pub fn counted(seen: &mut [u32], kind: u32, case: u32, number: u32, same: bool) {
-    raise(seen, 0);
-    raise(seen, ALL);
-    raise(seen, if number == 0 { 1 } else { 2 });
-    if !same {
-        note_difference(seen, kind, case);
-    }
-}
-
-// What was compared of the kind at hand, after its name; the next kind begins.
-pub fn kind_counts(seen: &mut [u32]) {
-    report::say_number(b": compared ", value(seen, 0));
-    report::say_number(b", accepted ", value(seen, 1));
-    report::say_number(b", refused ", value(seen, 2));
-    report::say_number(b", differ ", value(seen, 3));
-    report::say(b"\n");
-    clear_kind(seen);
-}
-
-fn clear_kind(seen: &mut [u32]) {
-    put(seen, 0, 0);
-    put(seen, 1, 0);
-    put(seen, 2, 0);
-    put(seen, 3, 0);
 }
 
 fn raise_if(seen: &mut [u32], k: usize, yes: bool) {
@@ -171,19 +113,13 @@ fn cut(file: &[u8], number: u64) -> usize
     }
 }
 
-fn raise_cut(seen: &mut [u32], way: usize) {
-    if way < 3 {
-        raise(seen, CUT + way);
-    }
-}
-
 fn count_drop(file: &[u8], number: u64, refused: u32, seen: &mut [u32]) {
     match refused {
         0 => {
             let at = standing(chain::position(file, number), chain::records(file));
             raise(seen, DROPPED + at);
         }
-        72 => raise_cut(seen, cut(file, number)),
+        72 => raise(seen, CUT + cut(file, number)),
         _ => (),
     }
 }
@@ -287,7 +223,7 @@ fn count_compact(file: &[u8], after: &[u8], refused: u32, seen: &mut [u32]) {
 pub fn count(file: &[u8], after: &[u8], c: Call, number: u32, seen: &mut [u32]) {
     let d = c.domain;
     let what = c.what;
-    raise(seen, EDITS + 15 * (what % 3) as usize + column(number));
+    raise(seen, 15 * (what % 3) as usize + column(number));
     match what {
         calls::DROP => count_drop(file, d.number, number, seen),
         calls::ADD => count_add(file, d, number, seen),
@@ -309,7 +245,7 @@ fn say_name(k: usize) {
         10 where 7, 9, 11, 10, 71 hold too\n\
         added up to P, and 10 at P + 1\n\
         compacted no chain, one at the front, one moved, one moved over leftovers\n\
-        72 for a number that is there when cut to 32, 16, 8 bits\n\
+        72 for a number that is there when cut to 32, 16, 8 bits, and for others\n\
         added plain, marked, with a writeback reservation, with both\n",
         k,
     );
@@ -321,16 +257,15 @@ fn width(name: usize) -> usize
 {
     match name {
         0..=2 => 15,
-        3 | 4 | 11 | 13 => 4,
         5..=9 => 5,
-        12 => 3,
-        _ => 2,
+        10 => 2,
+        _ => 4,
     }
 }
 
 // A name, and so many counts from one on.
 fn say_counts(seen: &[u32], name: usize, from: usize, counts: usize)
-    requires { ⌜ (from < 100) × (counts ≤ 15) ⌝ }
+    requires { ⌜ (from < 92) × (counts ≤ 15) ⌝ }
 {
     say_name(name);
     report::say(b":");
@@ -343,25 +278,12 @@ fn say_counts(seen: &[u32], name: usize, from: usize, counts: usize)
 }
 
 pub fn lines(seen: &[u32]) {
-    let mut from: usize = EDITS;
+    let mut from: usize = 0;
     let mut name: usize = 0;
     while name < 14 {
         let counts = width(name);
-        say_counts(seen, name, from % 100, counts);
+        say_counts(seen, name, from % 92, counts);
         from = std::num::wrapping_add_usize(from, counts);
         name += 1;
     }
-}
-
-// The first difference, if there is one, and the total.
-pub fn last_lines(seen: &[u32]) {
-    if value(seen, ALL + 1) != 0 {
-        report::say(b"first difference: ");
-        say_kind(value(seen, FIRST));
-        report::say_number(b", case ", value(seen, FIRST + 1));
-        report::say(b"\n");
-    }
-    report::say_number(b"all: compared ", value(seen, ALL));
-    report::say_number(b", differ ", value(seen, ALL + 1));
-    report::say(b"\n");
 }

@@ -9,21 +9,21 @@
 //   add N Q R W V M                a domain is added; V is the writeback reservation, M 1 where it is marked
 //   compact                        the file is compacted
 //   then K N N N N N N             record K of the file due after the edit: six numbers of two bytes, and zeros
-//   byte O N                       a byte of the file due
 //   due N K                        the edit tells this refusal (0 for none) and place, and leaves the file due
 // Numbers of the lines from `drop` on have any count of digits, up to 64 bits. The file due is the plan file as it stands when
-// the edit is named, but for what `then` and `byte` say, and is the plan file behind `due`. All else begins anew with `case`.
+// the edit is named, but for what `then` says, and is the plan file behind `due`. All else begins anew with `case`.
 use super::calls;
 use super::calls::Call;
 use super::compare;
-use super::seen;
 use trial_kit::bytes;
-use trial_kit::draw;
 use trial_kit::files::LONGEST;
 use trial_kit::given::put_in_file;
 use trial_kit::lines;
+use trial_kit::report;
+use trial_kit::tally;
+use trial_kit::tally::Tally;
+use trial_kit::tally::Verdict;
 use trial_kit::tally::both;
-use trial_kit::tally::more;
 
 // The kind of all stated cases.
 const STATED: u32 = 0;
@@ -142,19 +142,11 @@ fn put_record_due(due: &mut [u8], given: &[u8], at: usize) {
     );
 }
 
-fn put_byte_due(due: &mut [u8], given: &[u8], at: usize) {
-    bytes::put(
-        due,
-        small(given, at, 1) as usize,
-        draw::low(small(given, at, 2)),
-    );
-}
-
 // The next case; its name is behind the word.
 fn next_case(s: Stand, at: usize, file: &mut [u8]) -> Stand {
     bytes::fill(file, LONGEST, 0, bytes::ZEROS);
     Stand {
-        case: more(s.case),
+        case: tally::more(s.case),
         named: std::num::wrapping_add_usize(at, 5),
         size: 0,
         called: at,
@@ -168,10 +160,8 @@ fn sort(given: &[u8], at: usize) -> u8 {
 
 // What a line says of the file due.
 fn put_due(given: &[u8], at: usize, due: &mut [u8]) {
-    match sort(given, at) {
-        b'h' => put_record_due(due, given, at),
-        b'y' => put_byte_due(due, given, at),
-        _ => (),
+    if sort(given, at) == b'h' {
+        put_record_due(due, given, at);
     }
 }
 
@@ -186,39 +176,60 @@ fn stand_after(s: Stand, given: &[u8], at: usize, file: &mut [u8], due: &mut [u8
 }
 
 // The edit by the library and the model, which have to tell and to leave what is due; the file due is the plan file then.
-fn compared(s: Stand, given: &[u8], at: usize, file: &mut [u8], due: &[u8], seen: &mut [u32]) {
+fn compared(
+    s: Stand,
+    given: &[u8],
+    at: usize,
+    file: &mut [u8],
+    due: &[u8],
+    seen: &mut [u32],
+) -> Verdict {
     let size = bytes::least(s.size, file.len());
-    let t = compare::tried(&mut file[0..size], call_of(given, s.called), seen);
+    let o = compare::tried(&mut file[0..size], call_of(given, s.called), seen);
+    let v = o.verdict;
     let told = both(
-        t.number == small(given, at, 1),
-        t.place == small(given, at, 2),
+        v.number == small(given, at, 1),
+        o.place == small(given, at, 2),
     );
-    let same = both(both(t.same, told), check::same(file, due));
-    seen::counted(seen, STATED, s.case, t.number, same);
+    let same = both(both(v.same, told), check::same(file, due));
     copy(file, due);
-}
-
-// The counts of a case are printed before the next begins.
-fn close(s: Stand, given: &[u8], seen: &mut [u32]) {
-    if s.case > 0 {
-        lines::say_line(given, s.named);
-        seen::kind_counts(seen);
+    Verdict {
+        number: v.number,
+        same,
     }
 }
 
-// What a line asks to be compared or printed.
-fn answer(s: Stand, given: &[u8], at: usize, file: &mut [u8], due: &[u8], seen: &mut [u32]) {
+// The counts of a case are printed before the next begins.
+fn closed(t: Tally, s: Stand, given: &[u8]) -> Tally {
+    if s.case > 0 {
+        lines::say_line(given, s.named);
+        report::counts_line(t);
+    }
+    tally::next_kind(t)
+}
+
+// The tally after a line.
+fn tally_after(
+    t: Tally,
+    s: Stand,
+    given: &[u8],
+    at: usize,
+    file: &mut [u8],
+    due: &[u8],
+    seen: &mut [u32],
+) -> Tally {
     match sort(given, at) {
-        b'a' => close(s, given, seen),
-        b'u' => compared(s, given, at, file, due, seen),
-        _ => (),
+        b'a' => closed(t, s, given),
+        b'u' => tally::counted(t, STATED, s.case, compared(s, given, at, file, due, seen)),
+        _ => t,
     }
 }
 
 // All cases of the text. Its last line begins a case without a name, so that the one before is printed.
-pub fn cases(given: &[u8], seen: &mut [u32]) {
+pub fn cases(before: Tally, given: &[u8], seen: &mut [u32]) -> Tally {
     let mut file = [0u8; 1040];
     let mut due = [0u8; 1040];
+    let mut t = before;
     let mut s = Stand {
         case: 0,
         named: 0,
@@ -227,10 +238,12 @@ pub fn cases(given: &[u8], seen: &mut [u32]) {
     };
     let mut at: usize = 0;
     while at < given.len() {
-        answer(s, given, at, &mut file, &due, seen);
+        let tally = tally_after(t, s, given, at, &mut file, &due, seen);
+        let stand = stand_after(s, given, at, &mut file, &mut due);
+        t = tally;
+        s = stand;
         put_due(given, at, &mut due);
-        let next = stand_after(s, given, at, &mut file, &mut due);
-        s = next;
         at = lines::after_line(given, at);
     }
+    t
 }

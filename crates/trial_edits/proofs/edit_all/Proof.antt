@@ -8,10 +8,10 @@ use Rattle.trial_edits.proofs.edit_all.Statement.{statement}
 use Rattle.trial_edits.proofs.edit_all.Tie as tie
 
 abbrev Inv-loop : tie.InvT-loop
-Inv-loop kind case seed file₀ seen₀ most k₀ file seen k = (k ≤ most) × (length file ≡ length file₀) × (length seen ≡ length seen₀)
+Inv-loop kind case seed file₀ seen₀ most t₀ k₀ file seen t k = (k ≤ most) × (length file ≡ length file₀) × (length seen ≡ length seen₀)
 
 abbrev μ-loop : tie.MeasureT-loop
-μ-loop kind case seed file₀ seen₀ most k₀ file seen k = most - k
+μ-loop kind case seed file₀ seen₀ most t₀ k₀ file seen t k = most - k
 
 pub edit-all-spec : {M : Type 1} → statement M
 edit-all-spec =
@@ -21,10 +21,6 @@ edit-all-spec =
     μ-loop
     (λ c κs. search needs)
     (λ c. search needs)
-    (λ c κs. search needs)
-    (λ c κs. search needs)
-    (λ c κs. search needs)
-    (λ c κs. search needs)
     (λ c κs. search needs)
     (λ c. search needs)
     (λ c. search needs)

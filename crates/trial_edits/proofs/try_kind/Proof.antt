@@ -8,10 +8,10 @@ use Rattle.trial_edits.proofs.try_kind.Statement.{statement}
 use Rattle.trial_edits.proofs.try_kind.Tie as tie
 
 abbrev Inv-loop : tie.InvT-loop
-Inv-loop kind seen₀ most case₀ seen case = (case ≤ most) × (length seen ≡ length seen₀)
+Inv-loop kind seen₀ t₀ most case₀ seen t case = (case ≤ most) × (length seen ≡ length seen₀)
 
 abbrev μ-loop : tie.MeasureT-loop
-μ-loop kind seen₀ most case₀ seen case = most - case
+μ-loop kind seen₀ t₀ most case₀ seen t case = most - case
 
 pub try-kind-spec : {M : Type 1} → statement M
 try-kind-spec =
@@ -20,12 +20,12 @@ try-kind-spec =
     Inv-loop
     μ-loop
     (λ c κs. search needs)
+    (λ c κs. search needs)
     (λ c. search needs)
     (λ c κs. search needs)
     (λ c. search needs)
     (λ c. search needs)
     (λ c. search needs)
-    (λ c κs. search needs)
     (λ c κs. search needs)
     (λ c. search needs)
     (λ c. search needs))

@@ -8,10 +8,10 @@ use Rattle.trial_edits.proofs.stated.cases.Statement.{statement}
 use Rattle.trial_edits.proofs.stated.cases.Tie as tie
 
 abbrev Inv-loop : tie.InvT-loop
-Inv-loop given seen₀ file₀ due₀ s₀ at₀ seen file due s at = (length seen ≡ length seen₀) × (length file ≡ 1040) × (length due ≡ 1040)
+Inv-loop given seen₀ file₀ due₀ t₀ s₀ at₀ seen file due t s at = (length seen ≡ length seen₀) × (length file ≡ 1040) × (length due ≡ 1040)
 
 abbrev μ-loop : tie.MeasureT-loop
-μ-loop given seen₀ file₀ due₀ s₀ at₀ seen file due s at = length given - at
+μ-loop given seen₀ file₀ due₀ t₀ s₀ at₀ seen file due t s at = length given - at
 
 pub cases-spec : {M : Type 1} → statement M
 cases-spec =
@@ -24,8 +24,8 @@ cases-spec =
     (λ c. search needs)
     (λ c κs. search needs)
     (λ c. search needs)
-    (λ c κs. search needs)
     (λ c. search needs)
+    (λ c κs. search needs)
     (λ c. search needs)
     (λ c κs. search needs)
     (λ c κs. search needs)
