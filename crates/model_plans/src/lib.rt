@@ -4,7 +4,7 @@
 mod along;
 mod chain;
 mod layout;
-mod record;
+pub mod record;
 pub mod words;
 
 pub use along::Sums;

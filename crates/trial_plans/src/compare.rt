@@ -11,9 +11,7 @@ use trial_kit::tally::Verdict;
 use trial_kit::tally::both;
 use trial_kit::values;
 
-// The bytes of the longest file that is tried, and of the buffers that plans are written to.
-pub const LONGEST: u32 = 1040;
-
+// The bytes of the buffers that plans are written to.
 pub const BUFFER: u32 = 320;
 
 fn wide8(x: u8) -> u32 {

@@ -1,41 +1,16 @@
 // The files of each kind, put where all bytes are zero; records off the chain stay so, but for those of the kinds from 30 on.
-ghost use Prim.Native.Nat.{_≤_};
-use super::chain;
-use super::chain::Chain;
-use super::compare;
-use super::faults;
 use super::leftovers;
 use super::leftovers::Made;
 use super::places;
 use trial_kit::bytes;
+use trial_kit::chain;
 use trial_kit::draw;
+use trial_kit::faults;
+use trial_kit::files;
+use trial_kit::files::bytes_of;
+use trial_kit::files::put_good;
 use trial_kit::rest;
 use trial_kit::values;
-
-fn most_records(many: bool) -> u32
-    ensures { λ r. ⌜ r ≤ 63 ⌝ }
-{
-    if many { 63 } else { 19 }
-}
-
-// A plan that is accepted, in few records or in many.
-pub fn put_good(file: &mut [u8], seed: u32) -> Chain {
-    let records = 1 + draw::upto(seed, 5, most_records(draw::upto(seed, 6, 3) == 0));
-    chain::lay(file, values::drawn(seed, values::GOOD), records, seed)
-}
-
-// How many bytes so many records are.
-pub fn bytes_of(records: u32) -> u32 {
-    records % 128 * 16
-}
-
-// A good file cut to every length, from no byte to more than a file may have.
-fn lengths(file: &mut [u8], case: u32, seed: u32) -> u32 {
-    let whole = case / 16 % 128;
-    let records = if whole == 0 { 1 } else { whole };
-    chain::lay(file, values::drawn(seed, values::GOOD), records, seed);
-    case
-}
 
 fn periods(file: &mut [u8], case: u32, seed: u32) -> u32 {
     let c = put_good(file, seed);
@@ -101,67 +76,6 @@ fn two_faults(file: &mut [u8], apart: bool, seed: u32) -> u32 {
     bytes_of(c.records)
 }
 
-// The byte that a case damages: each in its order, and round again.
-fn position(case: u32, bytes: u32) -> u32 {
-    if bytes == 0 { 0 } else { case % bytes }
-}
-
-// Each byte of a good file in turn, put to a drawn value; 336 cases have one file.
-fn one_byte(file: &mut [u8], case: u32, seed: u32) -> u32 {
-    let c = put_good(file, case / 336);
-    let bytes = bytes_of(c.records);
-    bytes::put(
-        file,
-        position(case, bytes) as usize,
-        draw::low(draw::draw(seed, 7)),
-    );
-    bytes
-}
-
-// A record 0 with a link, where one is asked for.
-fn put_first(file: &mut [u8], asked: bool, records: u32, seed: u32) {
-    if asked {
-        bytes::put_record(
-            file,
-            0,
-            1 + draw::upto(seed, 6, 4095),
-            draw::upto(seed, 7, records),
-            0,
-            0,
-            0,
-            0,
-        );
-    }
-}
-
-// Filled bytes of any length; every second file has a record 0 that is followed.
-fn filled(file: &mut [u8], style: u32, case: u32, seed: u32) -> u32 {
-    bytes::fill(file, compare::LONGEST, seed, style);
-    let records = draw::upto(seed, 5, 65);
-    put_first(file, case % 2 == 0, records, seed);
-    if draw::upto(seed, 8, 7) == 0 {
-        draw::upto(seed, 9, compare::LONGEST)
-    } else {
-        bytes_of(records)
-    }
-}
-
-// Records whose fields are small, so that links, numbers and amounts are often right.
-fn small(file: &mut [u8], seed: u32) -> u32 {
-    bytes::fill(file, 144, seed, bytes::SMALL);
-    bytes::put_record(
-        file,
-        0,
-        1 + draw::upto(seed, 6, 30),
-        draw::upto(seed, 7, 7),
-        0,
-        0,
-        0,
-        0,
-    );
-    16 + 16 * draw::upto(seed, 5, 8)
-}
-
 // The fault of a case of the kinds 5 to 8, 26 and 28, one sort each.
 fn fault_of(kind: u32, case: u32) -> u32 {
     match kind {
@@ -177,7 +91,7 @@ fn fault_of(kind: u32, case: u32) -> u32 {
 // The kinds of good files, and of files with a fault of one sort.
 fn put_laid(file: &mut [u8], kind: u32, case: u32, seed: u32) -> u32 {
     match kind {
-        1 => lengths(file, case, seed),
+        1 => files::lengths(file, case, seed),
         2 => periods(file, case, seed),
         3 => first_record(file, case, seed),
         4 => chains(file, seed),
@@ -188,9 +102,9 @@ fn put_laid(file: &mut [u8], kind: u32, case: u32, seed: u32) -> u32 {
 // The kinds of filled bytes.
 fn put_filled(file: &mut [u8], kind: u32, case: u32, seed: u32) -> u32 {
     match kind {
-        13 | 38 => filled(file, bytes::ANY, case, seed),
-        14 | 39 => filled(file, bytes::SPARSE, case, seed),
-        _ => small(file, seed),
+        13 | 38 => files::filled(file, bytes::ANY, case, seed),
+        14 | 39 => files::filled(file, bytes::SPARSE, case, seed),
+        _ => files::small(file, seed),
     }
 }
 
@@ -207,7 +121,7 @@ fn put_unknown(file: &mut [u8], kind: u32, case: u32, seed: u32) -> u32 {
         1..=8 | 26 | 28 => put_laid(file, kind, case, seed),
         9 => sums(file, case, seed),
         10 | 11 => two_faults(file, kind == 11, seed),
-        12 => one_byte(file, case, seed),
+        12 => files::one_byte(file, case, seed),
         13..=15 => put_cleared(file, kind, case, seed),
         38..=40 => put_filled(file, kind, case, seed),
         _ => places::put(file, kind, case, seed),

@@ -1,12 +1,14 @@
 // The files of the kinds 30 to 37, made with leftovers: of each the refusal and its place are known.
-use super::chain;
-use super::chain::Chain;
 use super::compare;
-use super::files;
-use super::places;
 use trial_kit::bytes;
+use trial_kit::chain;
+use trial_kit::chain::Chain;
 use trial_kit::draw;
+use trial_kit::files;
 use trial_kit::rest;
+use trial_kit::spoiled::put_byte;
+use trial_kit::spoiled::put_in;
+use trial_kit::spoiled::spoil;
 use trial_kit::tally::both;
 use trial_kit::values;
 
@@ -44,27 +46,9 @@ fn put_roomy(file: &mut [u8], seed: u32) -> Chain {
     c
 }
 
-// A byte that is not zero: the lowest bit alone, the highest, all of them, or any.
-fn put_byte(file: &mut [u8], record: u32, offset: u32, seed: u32) {
-    let b = match draw::upto(seed, 810, 3) {
-        0 => 1,
-        1 => 128,
-        2 => 255,
-        _ => draw::low(1 + draw::upto(seed, 811, 254)),
-    };
-    bytes::put(file, bytes::place(record, offset), b);
-}
-
-// Such a byte in any place of a record; none in record 0, which stands for no record here.
-fn put_in(file: &mut [u8], record: u32, seed: u32) {
-    if record != 0 {
-        put_byte(file, record, draw::upto(seed, 812, 15), seed);
-    }
-}
-
 // Any bytes off the chain, where it does not reach all records.
 fn any_rest(file: &mut [u8], seed: u32) -> Made {
-    bytes::fill(file, compare::LONGEST, seed, bytes::ANY);
+    bytes::fill(file, files::LONGEST, seed, bytes::ANY);
     let c = files::put_good(file, seed);
     let lowest = rest::nth(file, 0);
     known(c.records, if free(c) == 0 { 0 } else { lowest })
@@ -132,7 +116,7 @@ fn largest(file: &mut [u8], case: u32, seed: u32) -> Made {
     };
     let p = values::drawn(seed, values::WHOLE);
     let c = chain::lay(file, p, if way == 0 { 64 } else { 63 }, seed);
-    places::end_chain(file, c, taken);
+    chain::end_chain(file, c, taken);
     rest::clear(file);
     let leftover = match way {
         0 => 0,
@@ -144,35 +128,6 @@ fn largest(file: &mut [u8], case: u32, seed: u32) -> Made {
     };
     put_in(file, leftover, seed);
     known(64, leftover)
-}
-
-// Makes a file of sixteen domains refused with a number, and answers its bytes. 10 is drawn by the plan alone.
-fn spoil(file: &mut [u8], c: Chain, number: u32, turn: u32, seed: u32) -> u32 {
-    let bytes = files::bytes_of(c.records);
-    match number {
-        1 => return wrong_length(bytes, turn),
-        2 => bytes::put_pair(file, 0, 0, wrong_period(turn)),
-        3 => put_byte(file, 0, 4 + turn % 12, seed),
-        10 => (),
-        _ => places::put_fault(file, c, number, turn, seed),
-    }
-    bytes
-}
-
-// Down to fifteen bytes less, or a record more than a file may have.
-fn wrong_length(bytes: u32, turn: u32) -> u32 {
-    match turn % 16 {
-        0 => compare::LONGEST,
-        k => std::num::wrapping_sub_u32(bytes, k),
-    }
-}
-
-fn wrong_period(turn: u32) -> u32 {
-    match turn % 3 {
-        0 => 0,
-        1 => 4097,
-        _ => 65535,
-    }
 }
 
 // The place that the model tells of the first bytes.
@@ -208,7 +163,7 @@ fn beside(file: &mut [u8], case: u32, seed: u32) -> Made {
 fn cut(file: &mut [u8], case: u32, seed: u32) -> Made {
     let taken = case % 17;
     let c = chain::lay(file, values::drawn(seed, values::WHOLE), 17, seed);
-    places::end_chain(file, c, taken);
+    chain::end_chain(file, c, taken);
     let lowest = rest::nth(file, 0);
     known(
         17 + draw::upto(seed, 6, 47),
@@ -219,7 +174,7 @@ fn cut(file: &mut [u8], case: u32, seed: u32) -> Made {
 // What a buffer was used for: any bytes (0), an older plan of sixteen domains (1), or nothing.
 fn put_used(file: &mut [u8], way: u32, seed: u32) {
     match way {
-        0 => bytes::fill(file, compare::LONGEST, seed, bytes::ANY),
+        0 => bytes::fill(file, files::LONGEST, seed, bytes::ANY),
         1 => {
             compare::write_over(file, values::drawn(draw::draw(seed, 816), values::WHOLE));
         }

@@ -8,9 +8,7 @@ use trial_kit::tally;
 use trial_kit::tally::Tally;
 use trial_kit::tally::both;
 
-mod chain;
 mod compare;
-mod faults;
 mod files;
 mod found;
 mod leftovers;

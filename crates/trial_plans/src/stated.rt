@@ -24,6 +24,7 @@ use model_plans::Answer;
 use model_plans::Sums;
 use model_plans::words;
 use trial_kit::bytes;
+use trial_kit::files;
 use trial_kit::given::put_in_file;
 use trial_kit::lines;
 use trial_kit::tally;
@@ -107,7 +108,7 @@ fn with_size(p: Stand, size: usize) -> Stand {
 
 // The next case; its name is behind the word.
 fn next_case(p: Stand, at: usize, file: &mut [u8]) -> Stand {
-    bytes::fill(file, compare::LONGEST, 0, bytes::ZEROS);
+    bytes::fill(file, files::LONGEST, 0, bytes::ZEROS);
     begun(
         tally::more(p.case),
         std::num::wrapping_add_usize(at, 5),

@@ -1,8 +1,8 @@
 // Faults put into a file that was laid well.
+use super::bytes;
 use super::chain;
 use super::chain::Chain;
-use trial_kit::bytes;
-use trial_kit::draw;
+use super::draw;
 
 // The faults by number: 8 of a link, then 5 of a domain number, 5 of a mark and of a byte that has to be zero, 9 of Q, R and W,
 // 5 of the writeback reservation, and 6 of a mark, of which the last two are none.

@@ -1,11 +1,11 @@
--- `trial_plans::chain::lay_domains` lays sixteen domains into a file whose length it keeps, and ends.
+-- `trial_kit::chain::lay_domains` lays sixteen domains into a file whose length it keeps, and ends.
 -- Assumes nothing.
 use Prim.Native.Nat.{_≤_, _-_}
 use borrow.Author.Needs.{needs}
 use mathlib.Core.Path.{_≡_}
 use lib.ListN.{length}
-use Rattle.trial_plans.proofs.chain.lay_domains.Statement.{statement}
-use Rattle.trial_plans.proofs.chain.lay_domains.Tie as tie
+use Rattle.trial_kit.proofs.chain.lay_domains.Statement.{statement}
+use Rattle.trial_kit.proofs.chain.lay_domains.Tie as tie
 
 abbrev Inv-loop : tie.InvT-loop
 Inv-loop file₀ p order domains most l₀ n₀ file l n = (n ≤ 16) × (length file ≡ length file₀)

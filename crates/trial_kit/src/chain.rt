@@ -1,9 +1,9 @@
 // A plan laid into a file as a chain of records in any order.
 ghost use Prim.Native.Nat.{_≤_};
+use super::bytes;
+use super::draw;
+use super::values;
 use plan::Plan;
-use trial_kit::bytes;
-use trial_kit::draw;
-use trial_kit::values;
 
 // What a file was laid with: its records, its period, how many domains are on the chain and the record of each.
 pub struct Chain {
@@ -91,4 +91,20 @@ fn lay_domains(file: &mut [u8], p: Plan, order: [u32; 64], domains: [u32; 64], m
         n += 1;
     }
     l.used
+}
+
+// The record whose link is followed after so many.
+pub fn before(order: [u32; 64], taken: u32) -> u32 {
+    if taken == 0 {
+        0
+    } else {
+        record_at(order, taken - 1)
+    }
+}
+
+// Ends the chain after so many of its records.
+pub fn end_chain(file: &mut [u8], c: Chain, taken: u32) {
+    let order = c.order;
+    let last = before(order, taken);
+    bytes::put_pair(file, last, bytes::link_offset(last), 0);
 }
