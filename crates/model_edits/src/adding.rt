@@ -1,5 +1,5 @@
 // The refusals of a domain to add, once the file is accepted.
-ghost use Prim.Native.Nat.{_<_, _≤_};
+ghost use Prim.Native.Nat.{_≤_};
 use super::Wanted;
 use model_plans::Answer;
 use model_plans::words;

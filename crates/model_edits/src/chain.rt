@@ -1,5 +1,5 @@
 // The chain of a file, asked anew from record 0 for each question. The answers count where the file is accepted.
-ghost use Prim.Native.Nat.{_<_, _≤_};
+ghost use Prim.Native.Nat.{_≤_};
 use model_plans::record;
 
 // How many records are on the chain.

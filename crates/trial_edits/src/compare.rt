@@ -1,12 +1,12 @@
 // One edit by the library and by the model, each on bytes lent out of a larger buffer.
-use super::calls;
-use super::calls::Call;
 use super::seen;
 use edit::NewDomain;
 use model_edits::Told;
 use model_edits::Wanted;
 use model_plans::words;
 use plan::Refusal;
+use trial_files::calls;
+use trial_files::calls::Call;
 use trial_kit::bytes;
 use trial_kit::tally::Verdict;
 use trial_kit::tally::both;
@@ -168,24 +168,47 @@ pub struct Outcome {
     pub place: u32,
 }
 
+// A file that the library has edited where it was lent out of a larger buffer, and what it told.
+struct Edited {
+    refused: u32,
+    place: u32,
+    all: [u8; 1104],
+}
+
+fn made(file: &[u8], c: Call) -> Edited {
+    let end = 32 + bytes::least(file.len(), 1040);
+    let mut all = framed(file);
+    let r = library_does(&mut all[32..end], c);
+    Edited {
+        refused: wide8(r.refused),
+        place: values::wide(r.place),
+        all,
+    }
+}
+
+// Whether the library told and left the same as the model, which left the file, with no byte changed around it.
+fn alike(l: Edited, m: Told, file: &[u8]) -> bool {
+    let all = l.all;
+    let due = framed(file);
+    all3(
+        l.refused == m.number,
+        l.place == m.place,
+        same_bytes(&all, &due),
+    )
+}
+
 // Tries an edit: the library on a file lent out of a larger buffer, the model on the file itself.
 pub fn tried(file: &mut [u8], c: Call, seen: &mut [u32]) -> Outcome {
     let end = 32 + bytes::least(file.len(), 1040);
     let old = framed(file);
-    let mut made = framed(file);
-    let l = library_does(&mut made[32..end], c);
+    let l = made(file, c);
     let m = model_does(file, c);
-    let due = framed(file);
     let right = holds(&old[32..end], file, c, m.number);
     seen::count(&old[32..end], file, c, m.number, seen);
-    let alike = both(
-        wide8(l.refused) == m.number,
-        values::wide(l.place) == m.place,
-    );
     Outcome {
         verdict: Verdict {
             number: m.number,
-            same: all3(alike, same_bytes(&made, &due), right),
+            same: both(alike(l, m, file), right),
         },
         place: m.place,
     }

@@ -1,12 +1,12 @@
 // What the edits came to, counted, so that a program that does nothing is noticed.
 ghost use Prim.Native.Nat.{_<_, _≤_};
-use super::calls;
-use super::calls::Call;
 use edit::NewDomain;
 use model_edits::adding;
 use model_edits::chain;
 use model_plans::Answer;
 use model_plans::words;
+use trial_files::calls;
+use trial_files::calls::Call;
 use trial_kit::bytes::least;
 use trial_kit::lines::say_nth;
 use trial_kit::report;

@@ -12,9 +12,9 @@
 //   due N K                        the edit tells this refusal (0 for none) and place, and leaves the file due
 // Numbers of the lines from `drop` on have any count of digits, up to 64 bits. The file due is the plan file as it stands when
 // the edit is named, but for what `then` says, and is the plan file behind `due`. All else begins anew with `case`.
-use super::calls;
-use super::calls::Call;
 use super::compare;
+use trial_files::calls;
+use trial_files::calls::Call;
 use trial_kit::bytes;
 use trial_kit::files::LONGEST;
 use trial_kit::given::put_in_file;

@@ -1,9 +1,9 @@
--- `trial_edits::calls::absent` asks sixteen numbers and ends.
+-- `trial_files::calls::absent` asks sixteen numbers and ends.
 -- Assumes nothing.
 use Prim.Native.Nat.{_≤_, _-_}
 use borrow.Author.Needs.{needs}
-use Rattle.trial_edits.proofs.calls.absent.Statement.{statement}
-use Rattle.trial_edits.proofs.calls.absent.Tie as tie
+use Rattle.trial_files.proofs.calls.absent.Statement.{statement}
+use Rattle.trial_files.proofs.calls.absent.Tie as tie
 
 abbrev Inv-loop : tie.InvT-loop
 Inv-loop domains seed first k₀ k = k ≤ 16

@@ -136,15 +136,17 @@ fn reservation(faults: u32, v: u32, w: u32, period: u32, seed: u32) -> u64 {
     }
 }
 
-// The number to add: one that the plan has not, one that it has, or none of 1 to 16.
+// The number to add: one that the plan has not, or has, or a wide one that is such where it is cut.
 fn number_of(domains: [u32; 96], faults: u32, seed: u32) -> u64 {
-    if faults % 2 == 1 {
-        return wide_number(absent(domains, seed), seed);
-    }
-    if faults / 2 % 2 == 1 {
-        words::wider(present(domains, seed))
+    let n = if faults / 2 % 2 == 1 {
+        present(domains, seed)
     } else {
-        words::wider(absent(domains, seed))
+        absent(domains, seed)
+    };
+    if faults % 2 == 1 {
+        wide_number(n, seed)
+    } else {
+        words::wider(n)
     }
 }
 

@@ -86,16 +86,25 @@ fn small(file: &mut [u8], seed: u32) -> u32 {
     size
 }
 
+// The kinds of bytes that are damaged or filled.
+fn put_rough(file: &mut [u8], kind: u32, case: u32, seed: u32) -> u32 {
+    match kind {
+        11 => files::one_byte(file, case, seed),
+        12 => files::filled(file, bytes::ANY, case, seed),
+        13 => files::filled(file, bytes::SPARSE, case, seed),
+        14 => small(file, seed),
+        _ => files::lengths(file, case, seed),
+    }
+}
+
 // Puts the file of a case and answers its length.
 pub fn put(file: &mut [u8], kind: u32, case: u32, seed: u32) -> u32 {
     match kind {
         6 | 7 | 17 => whole(file, kind, case, seed),
         8 => each_refusal(file, case, seed),
-        9 | 10 => over(file, (kind - 9) * bytes::SMALL, seed),
-        11 => files::one_byte(file, case, seed),
-        12 | 13 => files::filled(file, kind - 12, case, seed),
-        14 => small(file, seed),
-        15 => files::lengths(file, case, seed),
+        9 => over(file, bytes::ANY, seed),
+        10 => over(file, bytes::SMALL, seed),
+        11..=15 => put_rough(file, kind, case, seed),
         _ => good(file, seed),
     }
 }
