@@ -26,7 +26,7 @@ relinked k l b = cond (eqb k 0) (take 2 b ++ (l % 256 ∷ l / 256 % 256 ∷ drop
 unfoldable pub withLink : List ℕ → ℕ → ℕ → ℕ → List ℕ
 withLink s q l k = cond (eqb k q) (relinked k l (recordAt s k)) (recordAt s k)
 
--- and where record i is replaced by the bytes b beside
+-- the same, and record i is replaced by the bytes b
 unfoldable pub rewritten : (s : List ℕ) (q l i : ℕ) (b : List ℕ) → ℕ → List ℕ
 rewritten s q l i b k = cond (eqb k i) b (withLink s q l k)
 
