@@ -35,7 +35,7 @@ asked d =
 unfoldable pub free : List ℕ → ℕ → Bool
 free s k = leb 1 k && not (has k (chainOf s))
 
--- "overwrites the highest-numbered one whole", with link 0
+-- "the highest-numbered one"
 abbrev pub newRecord : List ℕ → ℕ
 newRecord s = highest (free s) (recordCount s)
 
@@ -43,7 +43,7 @@ newRecord s = highest (free s) (recordCount s)
 abbrev pub lastRecord : List ℕ → ℕ
 lastRecord s = lastOf 0 (chainOf s)
 
--- "and puts it last on the chain": what record k becomes
+-- "overwrites the highest-numbered one whole", with link 0, "and puts it last on the chain": what record k becomes
 abbrev pub addedRecord : List ℕ → Domain → ℕ → List ℕ
 addedRecord s d = rewritten s (lastRecord s) (newRecord s) (newRecord s) (domainRecord 0 d)
 

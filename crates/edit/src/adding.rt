@@ -36,7 +36,7 @@ fn is_no_number(n: u64) -> bool
     n == 0 || 16 < n
 }
 
-// Is one of the domain's three numbers above what they may be at most?
+// Is Q, R or W of the domain above what they may be at most?
 fn any_above(most: u64, d: NewDomain) -> bool
     ensures { λ r. ⌜ r ≡ above most (d .reservation) (d .reclaimcap) (d .writebackcap) ⌝ }
 {
@@ -91,10 +91,9 @@ fn highest_free(l: Indices, count: usize) -> usize
     let mut k = count;
     while 0 < k {
         k -= 1;
-        if is_listed(l, k) {
-            continue;
+        if !is_listed(l, k) {
+            return k;
         }
-        return k;
     }
     0
 }

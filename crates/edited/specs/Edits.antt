@@ -103,7 +103,7 @@ adds =
     ∷ makes (head 4 1 ++ (one 3 ++ (zero16 ++ two 0))) (add domain3) (head 4 1 ++ (one 3 ++ (three 0 ++ two 2)))
     ∷ makes (head 4 0 ++ (zero16 ++ zero16)) (add domain3) (head 4 2 ++ (zero16 ++ three 0))
     ∷ makes (planA ++ zero16) (add domain4) (head 4 1 ++ (one 2 ++ (two 3 ++ four 0)))
-    -- 6, 7, 9, 11, 10 and 71 in this order, each with a fault behind it, all at place 0; nothing is cut
+    -- 6, 7, 9, 11, 10 and 71 in this order, each but 71 also with a later fault, all at place 0; nothing is cut
     ∷ draws (planA ++ zero16) (add (domain 0 1 0 0 0)) 6 0
     ∷ draws (planA ++ zero16) (add (domain 17 5 0 0 0)) 6 0
     ∷ draws (planA ++ zero16) (add (domain 258 1 0 0 0)) 6 0

@@ -26,6 +26,14 @@ sub-k c = search needs
 is-listed-requires : tie.Need-is-listed-requires Inv-loop μ-loop
 is-listed-requires c κs = c .before .before .pre
 
+returns : tie.Need-returns Inv-loop μ-loop
+unfolding unlistedIn
+returns c =
+    let v = c .before .before .before in
+    let a = v .before .args in
+    let low = c .before .before .loop-test .taken in
+    sym (high-here (unlistedIn (a .l .count) (a .l .records)) (v .loop .k) low (ap not (sym (c .before .is-listed .ensures)) ∙ c .if1 .taken)) ∙ v .loop .inv .1
+
 loop-less : tie.Need-loop-less Inv-loop μ-loop
 loop-less c = omega (arith, c .before .before .loop-test .taken)
 
@@ -35,15 +43,7 @@ loop-again c =
     let v = c .before .before .before in
     let a = v .before .args in
     let low = c .before .before .loop-test .taken in
-    (omega (arith, v .loop .inv .0), sym (high-on (unlistedIn (a .l .count) (a .l .records)) (v .loop .k) low (ap not (sym (c .before .is-listed .ensures) ∙ c .if1 .taken))) ∙ v .loop .inv .1)
-
-returns : tie.Need-returns Inv-loop μ-loop
-unfolding unlistedIn
-returns c =
-    let v = c .before .before .before in
-    let a = v .before .args in
-    let low = c .before .before .loop-test .taken in
-    sym (high-here (unlistedIn (a .l .count) (a .l .records)) (v .loop .k) low (ap not (sym (c .before .is-listed .ensures) ∙ c .if1 .left))) ∙ v .loop .inv .1
+    (omega (arith, v .loop .inv .0), sym (high-on (unlistedIn (a .l .count) (a .l .records)) (v .loop .k) low (ap not (sym (c .before .is-listed .ensures)) ∙ c .if1 .left)) ∙ v .loop .inv .1)
 
 returns-2 : tie.Need-returns-2 Inv-loop μ-loop
 returns-2 c =
@@ -62,7 +62,7 @@ highest-free-spec =
     loop-holds
     sub-k
     is-listed-requires
+    returns
     loop-less
     loop-again
-    returns
     returns-2)
