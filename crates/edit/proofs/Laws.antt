@@ -6,6 +6,7 @@ pub mod Without
 pub mod Dropping
 pub mod Adding
 pub mod Compaction
+pub mod Rescue
 pub mod Storing
 pub mod Listing
 pub mod Writing

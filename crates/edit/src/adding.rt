@@ -7,9 +7,8 @@ use plan::Plan;
 use plan::Refusal;
 ghost use mathlib.Core.Path.{_≡_};
 ghost use mathlib.Core.Bool.{false};
-ghost use Prim.Native.Nat.{_+_, _-_, _≤_};
-ghost use lib.ListN.{getD, take};
-ghost use Rattle.table.specs.Members.{has};
+ghost use Prim.Native.Nat.{_-_, _≤_};
+ghost use lib.ListN.{getD};
 ghost use Rattle.table.specs.Ranges.{highest};
 ghost use Rattle.table.specs.Lines.{firstOf};
 ghost use Rattle.plan.specs.Value.{above, reserved};
@@ -68,21 +67,6 @@ fn domain_refusal(p: Plan, d: NewDomain) -> u8
     0
 }
 
-// Is record k record 0 or on the chain?
-fn is_listed(l: Indices, k: usize) -> bool
-    requires { ⌜ l .count ≤ 16 ⌝ }
-    ensures { λ r. ⌜ r ≡ has k (take (l .count + 1) (l .records)) ⌝ }
-{
-    let mut j = 0;
-    while j <= l.count {
-        if l.records[j] == k {
-            return true;
-        }
-        j += 1;
-    }
-    false
-}
-
 // The highest record below a count that is not listed, or 0.
 fn highest_free(l: Indices, count: usize) -> usize
     requires { ⌜ l .count ≤ 16 ⌝ }
@@ -91,7 +75,7 @@ fn highest_free(l: Indices, count: usize) -> usize
     let mut k = count;
     while 0 < k {
         k -= 1;
-        if !is_listed(l, k) {
+        if !chain::is_listed(l, k) {
             return k;
         }
     }

@@ -10,6 +10,7 @@ ghost use Prim.Native.Nat.{_≤_};
 ghost use lib.Dec.{leb};
 ghost use lib.ListN.{length};
 ghost use Rattle.plan.specs.Records.{recordAt};
+ghost use Rattle.plan.specs.Chain.{chainOf};
 ghost use Rattle.plan.specs.Writing.{nextIndex};
 ghost use Rattle.plan.proofs.Laws.Heads.{Whole};
 ghost use Rattle.edit.specs.Laying.{laid, blank, relinked};
@@ -18,7 +19,7 @@ ghost use Rattle.edit.specs.Inner.{Lists, Gathers};
 
 // Record 0 and the records of the chain, one after the other.
 fn gather(file: &[u8], l: Indices) -> [u8; 272]
-    requires { ⌜ (16 ≤ length (now file)) × Lists (now file) (l .count) (l .records) ⌝ }
+    requires { ⌜ (16 ≤ length (now file)) × Lists (chainOf (now file)) (l .count) (l .records) ⌝ }
     ensures { λ r. ⌜ Gathers (now (file .entry)) (l .count) r ⌝ }
 {
     let mut store = [0; 272];

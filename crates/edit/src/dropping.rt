@@ -8,6 +8,7 @@ ghost use Prim.Native.Nat.{_+_, _*_, _≤_};
 ghost use lib.ListN.{length};
 ghost use Rattle.table.specs.Members.{placeIn};
 ghost use Rattle.plan.specs.Records.{numberAt};
+ghost use Rattle.plan.specs.Chain.{chainOf};
 ghost use Rattle.edit.specs.Dropping.{numbersIn, dropRefusal, dropped};
 ghost use Rattle.edit.specs.Inner.{Lists};
 
@@ -29,7 +30,7 @@ fn number_at(file: &[u8], i: usize) -> u64
 
 // How many records stand on the chain before that of a domain, or all of them where it is not on the chain.
 fn place_of(file: &[u8], l: Indices, number: u64) -> usize
-    requires { ⌜ (16 ≤ length (now file)) × Lists (now file) (l .count) (l .records) ⌝ }
+    requires { ⌜ (16 ≤ length (now file)) × Lists (chainOf (now file)) (l .count) (l .records) ⌝ }
     ensures { λ r. ⌜ r ≡ placeIn number (numbersIn (now (file .entry))) ⌝ }
 {
     let mut k = 0;

@@ -46,7 +46,7 @@ fn write_record(file: &mut [u8], k: usize, bytes: [u8; 16])
 }
 
 // Sets the link of record q.
-fn set_link(file: &mut [u8], q: usize, l: u16)
+pub(crate) fn set_link(file: &mut [u8], q: usize, l: u16)
     requires { ⌜ Whole (length (now file)) × (q < recordCount (now file)) ⌝ }
     ensures { λ _. ⌜ now (file .exit) ≡ laid (withLink (now (file .entry)) q l) (now (file .entry)) ⌝ }
 {

@@ -22,8 +22,8 @@ record16 next number mark Q R W reservation = next ∷ 0 ∷ number ∷ mark ∷
 abbrev zero16 : List ℕ
 zero16 = replicate 16 0
 
-abbrev junk : List ℕ
-junk = replicate 15 0 ++ (7 ∷ [])
+abbrev leftover : List ℕ
+leftover = replicate 15 0 ++ (7 ∷ [])
 
 -- the records of plan A's domains with their links, and of two domains more: 3 reserves 1, and 4 reserves 1 for writebacks and is marked
 abbrev one : ℕ → List ℕ
@@ -93,7 +93,7 @@ drops =
     ∷ draws planA (drop 257) 72 0
     -- refusals of reading come first, with their places, 12 among them
     ∷ draws (head 4 1 ++ (one 2 ++ two 1)) (drop 3) 5 1
-    ∷ draws (planA ++ (zero16 ++ junk)) (drop 3) 12 4
+    ∷ draws (planA ++ (zero16 ++ leftover)) (drop 3) 12 4
     ∷ []
 
 -- the highest of three free records, one between the chain's, the first of a chain, and a domain with all that a record can state
@@ -115,21 +115,21 @@ adds =
     ∷ draws planA (add domain3) 71 0
     ∷ draws (head 4 0) (add domain3) 71 0
     -- refusals of reading come first
-    ∷ draws (planA ++ junk) (add (domain 0 1 0 0 0)) 12 3
+    ∷ draws (planA ++ leftover) (add (domain 0 1 0 0 0)) 12 3
     ∷ []
 
 -- a chain that runs backwards over leftovers, one with marks and writeback reservations, an empty one, and one that is in front already
 abbrev compactions : List Case
 compactions =
-    makes (head 4 3 ++ (one 0 ++ (junk ++ two 1))) compact (head 4 1 ++ (two 2 ++ (one 0 ++ zero16)))
+    makes (head 4 3 ++ (one 0 ++ (leftover ++ two 1))) compact (head 4 1 ++ (two 2 ++ (one 0 ++ zero16)))
     ∷ makes (head 9 4 ++ (zero16 ++ (three 0 ++ (zero16 ++ four 2)))) compact (head 9 1 ++ (four 2 ++ (three 0 ++ (zero16 ++ zero16))))
-    ∷ makes (head 4 0 ++ (junk ++ junk)) compact (head 4 0 ++ (zero16 ++ zero16))
+    ∷ makes (head 4 0 ++ (leftover ++ leftover)) compact (head 4 0 ++ (zero16 ++ zero16))
     ∷ makes planA compact planA
     -- the refusals of the earlier rule, and no other
     ∷ draws (head 4 1 ++ (one 2 ++ two 1)) compact 5 1
-    ∷ draws (head 2 1 ++ (one 2 ++ (two 0 ++ junk))) compact 9 1
-    ∷ draws (head 4 1 ++ (one 2 ++ (two 3 ++ (junk ++ record16 0 3 0 2 0 0 0)))) compact 6 3
-    ∷ draws (head 4 1 ++ (one 2 ++ (two 4 ++ (junk ++ record16 0 3 0 2 0 0 0)))) compact 10 0
+    ∷ draws (head 2 1 ++ (one 2 ++ (two 0 ++ leftover))) compact 9 1
+    ∷ draws (head 4 1 ++ (one 2 ++ (two 3 ++ (leftover ++ record16 0 3 0 2 0 0 0)))) compact 6 3
+    ∷ draws (head 4 1 ++ (one 2 ++ (two 4 ++ (leftover ++ record16 0 3 0 2 0 0 0)))) compact 10 0
     ∷ []
 
 -- one edit after the other: to plan A with two spare records domain 3 is added, domain 1 is dropped, and the rest is compacted

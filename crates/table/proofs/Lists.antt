@@ -113,6 +113,12 @@ pub has-no-image : (x : ℕ) (f : ℕ → ℕ) (xs : List ℕ) → ((j : ℕ) �
 has-no-image x f [] h = has-none x
 has-no-image x f (y ∷ ys) h = not-has x (f y) (map f ys) (h y (has-first y y ys refl)) (has-no-image x f ys (λ j e. h j (has-later j y ys e)))
 
+-- what a rule gives of the first k elements
+pub map-take : {A : Type 0} (f : ℕ → A) (k : ℕ) (xs : List ℕ) → map f (take k xs) ≡ take k (map f xs)
+map-take f zero xs = refl
+map-take f (suc k) [] = refl
+map-take {A} f (suc k) (x ∷ xs) = ap (λ (l : List A). f x ∷ l) (map-take f k xs)
+
 -- element k of what a rule gives
 pub map-at : (f : ℕ → ℕ) (xs : List ℕ) (k : ℕ) → k < length xs → nth (map f xs) k ≡ f (nth xs k)
 map-at f [] k h = absurd (omega arith)

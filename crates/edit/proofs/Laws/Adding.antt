@@ -33,7 +33,7 @@ use Rattle.edit.specs.Laying.{laid, OnlyTwo}
 use Rattle.edit.specs.Dropping.{numbersIn}
 use Rattle.edit.specs.Adding.{free, newRecord, lastRecord, addedRecord, domainTable, domainRefusal, addTable, addRefusal, added, AddsDomain, RefusedAddKeeps}
 use Rattle.edit.proofs.Laws.Laying.{rewritten-at, rewritten-same}
-use Rattle.edit.proofs.Laws.Rereading.{Edited, rewrites, only-two, laid-to, kept-count, kept-period, kept-head, kept-domains, kept-numbers, kept-orderly, kept-link, new-link}
+use Rattle.edit.proofs.Laws.Rereading.{Keeping, rewrites, only-two, laid-to, kept-count, kept-period, kept-head, kept-domains, kept-numbers, kept-orderly, kept-link, new-link}
 
 -- the record that is taken where there is a free one, and 0 where there is none
 module _ (s : List ℕ) where
@@ -97,7 +97,7 @@ module _ (s : List ℕ) (d : Domain) (v : Fits s d) where
   new : has i (0 ∷ xs) ≡ false
   new = not-has i 0 xs some (new-free s (v .free) .2)
 
-  edit : Edited s (addedRecord s d) last i xs
+  edit : Keeping s (addedRecord s d) last i xs
   edit = rewrites s last i i (domainRecord 0 d) xs (g .head) refl new (chain-orderly s)
 
   -- the new record

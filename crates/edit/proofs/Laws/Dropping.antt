@@ -28,7 +28,7 @@ use Rattle.plan.proofs.Laws.Intact.{Intact, intact-chain, intact-read}
 use Rattle.edit.specs.Laying.{laid, blank, OnlyTwo}
 use Rattle.edit.specs.Dropping.{numbersIn, holder, namer, droppedRecord, dropTable, dropRefusal, dropped, withoutDomain, DropsDomain, RefusedDropKeeps}
 use Rattle.edit.proofs.Laws.Laying.{rewritten-at, rewritten-same}
-use Rattle.edit.proofs.Laws.Rereading.{Edited, rewrites, only-two, laid-to, kept-count, kept-period, kept-head, kept-domains, kept-orderly, kept-link, new-link}
+use Rattle.edit.proofs.Laws.Rereading.{Keeping, rewrites, only-two, laid-to, kept-count, kept-period, kept-head, kept-domains, kept-orderly, kept-link, new-link}
 use Rattle.edit.proofs.Laws.Without.{plan-without, reserved-without}
 
 -- a file that is read, of which domain n is on the chain
@@ -92,9 +92,9 @@ module _ (s : List ℕ) (n : ℕ) (ok : readPlan s .refused ≡ 0) (on : has n (
   not-left : has i (0 ∷ (a ++ b)) ≡ false
   not-left = let m = apart-mid a i b (ordered .apart) in not-has i 0 (a ++ b) (here .some) (neither-has i a b (m .0) (m .1))
 
-  edit : Edited s (droppedRecord s n) (lastOf 0 a) (linkOf s i) (a ++ b)
+  edit : Keeping s (droppedRecord s n) (lastOf 0 a) (linkOf s i) (a ++ b)
   edit =
-      subst (λ (q : ℕ). Edited s (droppedRecord s n) q (linkOf s i) (a ++ b)) prev-is
+      subst (λ (q : ℕ). Keeping s (droppedRecord s n) q (linkOf s i) (a ++ b)) prev-is
       (rewrites s (namer s n) (linkOf s i) i blank (a ++ b) (g .head) refl not-left left)
 
   -- the link over the record

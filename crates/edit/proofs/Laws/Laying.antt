@@ -20,7 +20,7 @@ use Rattle.plan.specs.Writing.{recordsFrom}
 use Rattle.plan.proofs.Laws.Heads.{Whole}
 use Rattle.plan.proofs.Laws.Filing.{records-none, records-first, records-length, records-at, records-same}
 use Rattle.edit.specs.Laying.{laid, relinked, withLink, rewritten}
-use Rattle.edit.proofs.Laws.Records.{record-long, linkIn, link-in, relinked-tail, relinked-head, relinked-long, relinked-link}
+use Rattle.edit.proofs.Laws.Records.{record-long, linkIn, link-in, relinked-tail, relinked-head, relinked-long, relinked-link, relinked-none}
 
 -- a file of whole records is made of them
 whole-from : (s : List ℕ) (m j : ℕ) → length s ≡ 16 * (j + m) → recordsFrom (recordAt s) j m ≡ drop (16 * j) s
@@ -118,6 +118,14 @@ module _ (s : List ℕ) (q l : ℕ) where
               let h = relinked-head k l (recordAt s k) (record-long s k inside) z in
               (ap (take 2) (with-link e) ∙ h .0, ap (drop 4) (with-link e) ∙ h .1)
           go (no n) = (ap (take 2) (with-same n), ap (drop 4) (with-same n))
+
+      -- a link that is 0 already, and is set to 0
+      pub with-none : l ≡ 0 → linkOf s q ≡ 0 → withLink s q l k ≡ recordAt s k
+      with-none z end = go (ℕ-discrete k q)
+        where
+          go : Dec (k ≡ q) → withLink s q l k ≡ recordAt s k
+          go (yes e) = with-link e ∙ relinked-none k l (recordAt s k) (record-long s k inside) z (sym (link-in s k) ∙ ap (linkOf s) e ∙ end)
+          go (no n) = with-same n
 
   -- and where record i is replaced beside
   module _ (i : ℕ) (b : List ℕ) (k : ℕ) where

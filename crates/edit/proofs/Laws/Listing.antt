@@ -3,11 +3,11 @@
 use mathlib.Core.Path.{_≡_, sym, ap, ap₂, subst, _∙_}
 use mathlib.Core.Bool.{true, false}
 use mathlib.Core.List.{List, [], _∷_, _++_}
-use Prim.Native.Nat.{ℕ, _+_, _≤_, _<_}
+use Prim.Native.Nat.{ℕ, _+_, _-_, _≤_, _<_}
 use native.Mathlib.Numerals.{add-one}
 use native.Mathlib.Decide.{ℕ-discrete}
 use native.Mathlib.Omega.{arith}
-use lib.ListN.{length, take, set, length-set}
+use lib.ListN.{length, take, set, replicate, length-set, List·getD-append}
 use lib.Seq.{take-suc, take-suc-set, take-all, getD-take, length-take-le}
 use borrow.Author.Tests.{eq-eqb}
 use Rattle.table.specs.Sums.{nth}
@@ -16,15 +16,15 @@ use Rattle.table.specs.Lines.{firstOf}
 use Rattle.table.proofs.Tables.{hit}
 use Rattle.table.proofs.Flags.{has-more}
 use Rattle.table.proofs.Lists.{has-at, last-take, map-at}
+use Rattle.plan.specs.Value.{reservedOf}
 use Rattle.plan.specs.Records.{recordCount, numberAt}
-use Rattle.plan.specs.Chain.{linkOf, link, chainOf}
+use Rattle.plan.specs.Chain.{linkOf, link, chainOf, domainsIn, sumsIn}
 use Rattle.plan.specs.Reading.{headTable}
 use Rattle.plan.specs.Sums.{sumsTold}
 use Rattle.plan.specs.declared.chain.Sums.{Sums}
 use Rattle.plan.proofs.Laws.Chains.{lead-at, chain-leads}
 use Rattle.plan.proofs.Laws.Telling.{sums-are-plain, at-most-sixteen}
 use Rattle.edit.specs.Dropping.{numbersIn}
-use Rattle.edit.specs.Compaction.{source}
 use Rattle.edit.specs.Inner.{Lists}
 use Rattle.edit.proofs.Laws.Compaction.{source-in}
 
@@ -32,6 +32,16 @@ use Rattle.edit.proofs.Laws.Compaction.{source-in}
 pub told-count : (s : List ℕ) → firstOf (headTable s) 0 ≡ 0 → sumsTold s .records ≡ length (chainOf s)
 unfolding sumsTold
 told-count s e = ap (λ (t : Sums). t .records) (hit _ _ _ (eq-eqb (firstOf (headTable s) 0) 0 e)) ∙ sums-are-plain s .one
+
+-- and the sum told after the first n of them is what their domains reserve
+pub told-sum : (s : List ℕ) (n : ℕ) → firstOf (headTable s) 0 ≡ 0 → 1 ≤ n → n ≤ length (chainOf s)
+    → nth (sumsTold s .told) (n - 1) ≡ reservedOf (take n (domainsIn s))
+unfolding sumsTold
+told-sum s n e low high =
+    let held : List ℕ = sumsIn s in
+    ap (λ (t : Sums). nth (t .told) (n - 1)) (hit _ _ _ (eq-eqb (firstOf (headTable s) 0) 0 e))
+    ∙ List·getD-append held (replicate (16 - length held) 0) 0 (n - 1) (omega (arith, sums-are-plain s .one))
+    ∙ sums-are-plain s .each n low high
 
 -- record 0 and the first k records of the chain are listed
 pub record Listing (s records : List ℕ) (k : ℕ) : Type 0 where
@@ -59,35 +69,38 @@ module _ {s records : List ℕ} {k : ℕ} (v : Listing s records k) where
         long = length-set records (k + 1) l ∙ v .long;
       }
 
-  pub listing-all : (count : ℕ) → count ≡ length (chainOf s) → count ≤ k → Lists s count records
-  listing-all count e h =
-      let all : count ≡ k = omega (arith, v .within) in
+  pub listing-all : (count : ℕ) → count ≡ k → Lists (take count (chainOf s)) count records
+  listing-all count e =
       record {
-        front = ap (λ (n : ℕ). take (n + 1) records) all ∙ v .front ∙ take-all (k + 1) (0 ∷ chainOf s) (omega (arith, v .within));
-        counted = e;
+        front = ap (λ (n : ℕ). take (n + 1) records) e ∙ v .front ∙ ap (λ (n : ℕ). take n (0 ∷ chainOf s)) (add-one k) ∙ ap (λ (n : ℕ). 0 ∷ take n (chainOf s)) (sym e);
+        counted = sym (length-take-le count (chainOf s) (omega (arith, v .within)));
       }
 
-module _ (s : List ℕ) (count : ℕ) (records : List ℕ) (v : Lists s count records) where
+-- all records of the chain
+pub lists-chain : (s : List ℕ) (n count : ℕ) (records : List ℕ) → n ≡ length (chainOf s) → Lists (take n (chainOf s)) count records → Lists (chainOf s) count records
+lists-chain s n count records e = subst (λ (xs : List ℕ). Lists xs count records) (take-all n (chainOf s) (omega arith))
+
+-- entry k of a list, and the last
+module _ (xs : List ℕ) (count : ℕ) (records : List ℕ) (v : Lists xs count records) where
+  pub entry : (k : ℕ) → k ≤ count → nth records k ≡ nth (0 ∷ xs) k
+  entry k h = sym (getD-take (count + 1) records k 0 (omega arith)) ∙ ap (λ (l : List ℕ). nth l k) (v .front)
+
+  pub entry-last : nth records count ≡ lastOf 0 xs
+  entry-last =
+      entry count (omega arith) ∙ sym (last-take xs 0 count (omega (arith, v .counted))) ∙ ap (lastOf 0) (take-all count xs (omega (arith, v .counted)))
+
+module _ (s : List ℕ) (count : ℕ) (records : List ℕ) (v : Lists (chainOf s) count records) where
   pub few : count ≤ 16
   few = omega (arith, v .counted, at-most-sixteen s)
 
-  -- entry k, and that it is in the file
-  pub entry : (k : ℕ) → k ≤ count → nth records k ≡ source s k
-  entry k h = sym (getD-take (count + 1) records k 0 (omega arith)) ∙ ap (λ (l : List ℕ). nth l k) (v .front)
-
+  -- the record of an entry is in the file
   pub entry-in : 16 ≤ length s → (k : ℕ) → k ≤ count → nth records k < recordCount s
-  entry-in long k h = subst (λ (i : ℕ). i < recordCount s) (sym (entry k h)) (source-in s long k (omega (arith, v .counted)))
-
-  -- the last entry is the last record of the chain
-  pub entry-last : nth records count ≡ lastOf 0 (chainOf s)
-  entry-last =
-      entry count (omega arith) ∙ sym (last-take (chainOf s) 0 count (omega (arith, v .counted)))
-      ∙ ap (lastOf 0) (take-all count (chainOf s) (omega (arith, v .counted)))
+  entry-in long k h = subst (λ (i : ℕ). i < recordCount s) (sym (entry (chainOf s) count records v k h)) (source-in s long k (omega (arith, v .counted)))
 
   -- the domain number of the entry behind the first k + 1
   pub entry-number : (k : ℕ) → k < count → numberAt s (nth records (k + 1)) ≡ nth (numbersIn s) k
   entry-number k h =
-      ap (numberAt s) (entry (k + 1) (omega arith) ∙ ap (nth (0 ∷ chainOf s)) (add-one k))
+      ap (numberAt s) (entry (chainOf s) count records v (k + 1) (omega arith) ∙ ap (nth (0 ∷ chainOf s)) (add-one k))
       ∙ sym (map-at (numberAt s) (chainOf s) k (omega (arith, v .counted)))
 
 -- the search for a domain along the chain: it is none of the first k

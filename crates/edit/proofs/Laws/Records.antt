@@ -1,16 +1,17 @@
 -- Laws of one record: what it states lies behind its link, and what is known of it when its link is set.
 -- Assumes nothing.
 use mathlib.Core.Path.{_≡_, refl, sym, ap, ap₂, _∙_}
-use mathlib.Core.Bool.{cond, not, _||_}
+use mathlib.Core.Bool.{true, cond, not, _||_}
 use mathlib.Core.List.{List, [], _∷_, _++_}
 use Prim.Native.Nat.{ℕ, zero, suc, _+_, _*_, _/_, _%_, _<_}
 use native.Mathlib.Decide.{ℕ-discrete}
 use native.Mathlib.Omega.{arith}
-use lib.ListN.{length, getD, take, drop, length-drop}
+use lib.ListN.{length, getD, take, drop, replicate, length-drop}
 use lib.Seq.{getD-take, getD-drop, drop-drop, length-take-le}
 use lib.Dec.{eqb, ltb}
-use borrow.Author.Tests.{eq-eqb, ne-eqb}
-use Rattle.table.proofs.Tables.{miss, hit}
+use borrow.Author.Tests.{eqb-true, eq-eqb, ne-eqb}
+use Rattle.table.specs.Members.{each}
+use Rattle.table.proofs.Tables.{miss, hit, and-both}
 use Rattle.plan.specs.Records.{zeros, u16At, recordAt, recordCount, firstIn, nextIn, domainIn}
 use Rattle.plan.specs.Chain.{unlisted, linkOf}
 use Rattle.plan.proofs.Laws.Bytes.{two}
@@ -103,3 +104,32 @@ module _ (k l : ℕ) (b : List ℕ) where
         go : Dec (k ≡ 0) → cond (eqb k 0) (firstIn (relinked k l b)) (nextIn (relinked k l b)) ≡ l
         go (yes e) = hit _ _ _ (eq-eqb k 0 e) ∙ ap firstIn (relinked-first e) ∙ there b long
         go (no n) = miss _ _ _ (ne-eqb k 0 n) ∙ ap nextIn (relinked-other n) ∙ two l small
+
+    -- a link that is 0 already
+    pub relinked-none : l ≡ 0 → linkIn k b ≡ 0 → relinked k l b ≡ b
+    unfolding linkIn
+    relinked-none z e = go (ℕ-discrete k 0)
+      where
+        first : (b : List ℕ) → length b ≡ 16 → firstIn b ≡ 0 → take 2 b ++ (l % 256 ∷ l / 256 % 256 ∷ drop 4 b) ≡ b
+        first [] h n = absurd (omega arith)
+        first (w ∷ []) h n = absurd (omega arith)
+        first (w ∷ x ∷ []) h n = absurd (omega arith)
+        first (w ∷ x ∷ y ∷ []) h n = absurd (omega arith)
+        first (v ∷ w ∷ x ∷ y ∷ r) h n = ap₂ (λ (i j : ℕ). v ∷ w ∷ i ∷ j ∷ r) (omega arith) (omega arith)
+
+        next : (b : List ℕ) → length b ≡ 16 → nextIn b ≡ 0 → l % 256 ∷ l / 256 % 256 ∷ drop 2 b ≡ b
+        next [] h n = absurd (omega arith)
+        next (x ∷ []) h n = absurd (omega arith)
+        next (x ∷ y ∷ r) h n = ap₂ (λ (i j : ℕ). i ∷ j ∷ r) (omega arith) (omega arith)
+
+        go : Dec (k ≡ 0) → relinked k l b ≡ b
+        go (yes q) = relinked-first q ∙ first b long (sym (hit _ _ _ (eq-eqb k 0 q)) ∙ e)
+        go (no q) = relinked-other q ∙ next b long (sym (miss _ _ _ (ne-eqb k 0 q)) ∙ e)
+
+-- bytes that are all zero
+pub zeros-are : (b : List ℕ) → zeros b ≡ true → b ≡ replicate (length b) 0
+unfolding each
+zeros-are [] e = refl
+zeros-are (x ∷ b) e =
+    let h = and-both (eqb x 0) (zeros b) e in
+    ap₂ (λ (y : ℕ) (l : List ℕ). y ∷ l) (eqb-true x 0 (h .0)) (zeros-are b (h .1))

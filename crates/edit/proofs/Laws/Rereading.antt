@@ -33,13 +33,13 @@ takeable-same s t i j period tail some inside z =
     }
 
 -- A file laid anew in which record 0 and the records of xs are kept, but for the link of record q, which is l.
-pub record Edited (s : List ℕ) (f : ℕ → List ℕ) (q l : ℕ) (xs : List ℕ) : Type 0 where
+pub record Keeping (s : List ℕ) (f : ℕ → List ℕ) (q l : ℕ) (xs : List ℕ) : Type 0 where
   pub head : firstOf (headTable s) 0 ≡ 0
   pub sixteen : (k : ℕ) → k < recordCount s → length (f k) ≡ 16
   pub keeps : (k : ℕ) → has k (0 ∷ xs) ≡ true → f k ≡ withLink s q l k
   pub orderly : Orderly s xs
 
-module _ {s : List ℕ} {f : ℕ → List ℕ} {q l : ℕ} {xs : List ℕ} (v : Edited s f q l xs) where
+module _ {s : List ℕ} {f : ℕ → List ℕ} {q l : ℕ} {xs : List ℕ} (v : Keeping s f q l xs) where
   abbrev t : List ℕ
   t = laid f s
 
@@ -109,7 +109,7 @@ module _ {s : List ℕ} {f : ℕ → List ℕ} {q l : ℕ} {xs : List ℕ} (v : 
 
 -- where record i, which is neither record 0 nor one of xs, is replaced and one link is set
 module _ (s : List ℕ) (q l i : ℕ) (b xs : List ℕ) (head : firstOf (headTable s) 0 ≡ 0) (long : length b ≡ 16) where
-  pub rewrites : has i (0 ∷ xs) ≡ false → Orderly s xs → Edited s (rewritten s q l i b) q l xs
+  pub rewrites : has i (0 ∷ xs) ≡ false → Orderly s xs → Keeping s (rewritten s q l i b) q l xs
   rewrites off orderly =
       record {
         head = head;

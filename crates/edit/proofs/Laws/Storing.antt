@@ -52,7 +52,7 @@ laid-all f s b k v e whole =
 
 -- a record that is right already is passed by, and so are several
 module _ (f : ℕ → List ℕ) (s b : List ℕ) where
-  filled-keep : (k : ℕ) → Filled f s b k → recordAt b k ≡ f k → Filled f s b (k + 1)
+  pub filled-keep : (k : ℕ) → Filled f s b k → recordAt b k ≡ f k → Filled f s b (k + 1)
   filled-keep k v e =
       let at : 16 * (k + 1) ≡ 16 * k + 16 = omega arith in
       record {
@@ -71,6 +71,14 @@ module _ (f : ℕ → List ℕ) (s b : List ℕ) where
       let e : k + 1 + n ≡ k + suc n = omega arith in
       subst (Filled f s b) e (filled-keeps n (k + 1) (filled-keep k v (h k (omega arith) (omega arith))) (λ i a c. h i (omega arith) (omega arith)))
 
+  -- the records behind are as they were
+  pub filled-behind : (k : ℕ) → Filled f s b k → (i : ℕ) → k ≤ i → recordAt b i ≡ recordAt s i
+  filled-behind k v i h =
+      let e : 16 * i ≡ 16 * k + (16 * i - 16 * k) = omega arith in
+      let d = 16 * i - 16 * k in
+      ap (λ (n : ℕ). take 16 (drop n b)) e ∙ ap (take 16) (sym (drop-drop d (16 * k) b) ∙ ap (drop d) (v .back) ∙ drop-drop d (16 * k) s)
+      ∙ ap (λ (n : ℕ). take 16 (drop n s)) (sym e)
+
 -- one record's sixteen bytes lent and given back
 pub put-laid : (s : List ℕ) (k : ℕ) (r : List ℕ) → Whole (length s) → k < recordCount s → length r ≡ 16
     → putMid (16 * k) (16 * k + 16 - 16 * k) s r ≡ laid (replaced s k r) s
@@ -84,16 +92,8 @@ put-laid s k r whole h long =
     subst (Filled f s s) (zero-add k) (filled-keeps f s s k 0 (filled-none f s) (λ i a c. other i (λ e. omega arith))) in
     let here : Filled f s t (k + 1) = filled-more f s s k low r (omega arith) long (sym (hit _ _ _ (eq-eqb k k refl))) in
     let all : k + 1 + (m - (k + 1)) ≡ m = omega arith in
-    let rest : (i : ℕ) → k + 1 ≤ i → i < k + 1 + (m - (k + 1)) → recordAt t i ≡ f i = λ i a c. behind f s t (k + 1) here i a ∙ other i (λ e. omega arith) in
+    let rest : (i : ℕ) → k + 1 ≤ i → i < k + 1 + (m - (k + 1)) → recordAt t i ≡ f i = λ i a c. filled-behind f s t (k + 1) here i a ∙ other i (λ e. omega arith) in
     laid-all f s t (k + 1 + (m - (k + 1))) (filled-keeps f s t (m - (k + 1)) (k + 1) here rest) all whole
-  where
-    -- the records behind are as they were
-    behind : (f : ℕ → List ℕ) (s t : List ℕ) (k : ℕ) → Filled f s t k → (i : ℕ) → k ≤ i → recordAt t i ≡ recordAt s i
-    behind f s t k v i h =
-        let e : 16 * i ≡ 16 * k + (16 * i - 16 * k) = omega arith in
-        let d = 16 * i - 16 * k in
-        ap (λ (n : ℕ). take 16 (drop n t)) e ∙ ap (take 16) (sym (drop-drop d (16 * k) t) ∙ ap (drop d) (v .back) ∙ drop-drop d (16 * k) s)
-        ∙ ap (λ (n : ℕ). take 16 (drop n s)) (sym e)
 
 -- a link that is set
 pub link-laid : (s : List ℕ) (q l : ℕ) → Whole (length s) → laid (replaced s q (relinked q l (recordAt s q))) s ≡ laid (withLink s q l) s
@@ -110,7 +110,7 @@ laid-count : (f : ℕ → List ℕ) (t s : List ℕ) → recordCount t ≡ recor
 unfolding laid
 laid-count f t s e = ap (recordsFrom f 0) e
 
--- the two writes of an edit
+-- the writes of an edit: a link is set, and then the records that pass a test are replaced
 module _ (s : List ℕ) (q l : ℕ) (whole : Whole (length s)) where
   sixteen : (j : ℕ) → j < recordCount s → length (withLink s q l j) ≡ 16
   sixteen j h = with-long s q l j h
@@ -118,9 +118,14 @@ module _ (s : List ℕ) (q l : ℕ) (whole : Whole (length s)) where
   pub linked-length : length (laid (withLink s q l) s) ≡ length s
   linked-length = laid-length s whole (withLink s q l) sixteen
 
+  pub then-laid : (test : ℕ → Bool) (r : List ℕ)
+      → (let t = laid (withLink s q l) s in laid (λ (j : ℕ). cond (test j) r (recordAt t j)) t ≡ laid (λ (j : ℕ). cond (test j) r (withLink s q l j)) s)
+  then-laid test r =
+      let t = laid (withLink s q l) s in
+      let f : ℕ → List ℕ = λ j. cond (test j) r (recordAt t j) in
+      laid-count f t s (ap (λ (n : ℕ). n / 16) linked-length)
+      ∙ laid-agree s whole f (λ (j : ℕ). cond (test j) r (withLink s q l j)) (λ j h. ap (cond (test j) r) (laid-at s whole (withLink s q l) sixteen j h))
+
   pub rewrite-laid : (k : ℕ) (r : List ℕ) → (let t = laid (withLink s q l) s in laid (replaced t k r) t ≡ laid (rewritten s q l k r) s)
   unfolding replaced rewritten
-  rewrite-laid k r =
-      let t = laid (withLink s q l) s in
-      laid-count (replaced t k r) t s (ap (λ (n : ℕ). n / 16) linked-length)
-      ∙ laid-agree s whole (replaced t k r) (rewritten s q l k r) (λ j h. ap (cond (eqb j k) r) (laid-at s whole (withLink s q l) sixteen j h))
+  rewrite-laid k r = then-laid (λ (j : ℕ). eqb j k) r

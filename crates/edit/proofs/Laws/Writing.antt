@@ -1,4 +1,4 @@
--- The two writes of dropping and of adding, what adding checks of the plan that was read, and the records that compaction gathers.
+-- The writes of dropping, adding and rescuing, what adding checks of the plan that was read, and the records that compaction gathers.
 -- Assumes nothing.
 use mathlib.Core.Path.{_≡_, refl, sym, ap, ap₂, _∙_}
 use mathlib.Core.Bool.{Bool, true, false, cond, not, _&&_}
@@ -12,7 +12,7 @@ use lib.ListN.{length, getD, drop, length-map}
 use lib.Dec.{leb, ltb}
 use borrow.Author.Tests.{leb-true, le-leb, lt-leb}
 use Rattle.table.specs.Sums.{nth}
-use Rattle.table.specs.Members.{has, placeIn}
+use Rattle.table.specs.Members.{has, lastOf, placeIn}
 use Rattle.table.specs.Ranges.{highest}
 use Rattle.table.specs.Lines.{firstOf}
 use Rattle.table.proofs.Lists.{has-first, has-other, place-some}
@@ -22,22 +22,26 @@ use Rattle.plan.specs.Chain.{noNumber, linkOf, chainOf, domainsIn}
 use Rattle.plan.specs.Writing.{nextIndex}
 use Rattle.plan.specs.declared.value.Domain.{Domain}
 use Rattle.plan.specs.declared.value.Plan.{Plan}
+use Rattle.plan.proofs.Laws.Heads.{Whole}
 use Rattle.plan.proofs.Laws.Values.{within}
 use Rattle.plan.proofs.Laws.Holding.{Holds}
 use Rattle.plan.proofs.Laws.Links.{numbers-met}
 use Rattle.plan.proofs.Laws.Reading.{chain-held}
 use Rattle.plan.proofs.Laws.Filing.{Filled, filled-all, records-at}
-use Rattle.edit.specs.Laying.{laid, blank, relinked, rewritten}
+use Rattle.edit.specs.Laying.{laid, blank, relinked, withLink, rewritten}
 use Rattle.edit.specs.Dropping.{numbersIn, holder, namer, droppedRecord}
 use Rattle.edit.specs.Adding.{free, newRecord, lastRecord, addedRecord, domainTable, domainRefusal}
 use Rattle.edit.specs.Compaction.{source, movedRecord}
-use Rattle.edit.specs.Inner.{Lists, unlistedIn, Gathers}
+use Rattle.edit.specs.Rescue.{keptRecords, rescuedRecord}
+use Rattle.edit.specs.Inner.{Lists, unlistedIn, listedOnly, Gathers}
 use Rattle.edit.proofs.Laws.Records.{record-long}
+use Rattle.edit.proofs.Laws.Laying.{laid-agree}
 use Rattle.edit.proofs.Laws.Compaction.{source-in}
+use Rattle.edit.proofs.Laws.Storing.{then-laid}
 use Rattle.edit.proofs.Laws.Listing.{entry, entry-last}
 
 -- a file whose chain is listed
-module _ (s : List ℕ) (count : ℕ) (records : List ℕ) (v : Lists s count records) where
+module _ (s : List ℕ) (count : ℕ) (records : List ℕ) (v : Lists (chainOf s) count records) where
   -- a domain is on the chain where its place is below the count
   pub found : (n p : ℕ) → p ≡ placeIn n (numbersIn s) → ltb p count ≡ has n (numbersIn s)
   found n p is = ap₂ ltb is (v .counted ∙ sym (length-map (chainOf s) (numberAt s))) ∙ place-some n (numbersIn s)
@@ -45,10 +49,10 @@ module _ (s : List ℕ) (count : ℕ) (records : List ℕ) (v : Lists s count re
   -- where domain n is on the chain, two entries are its record and the one that names it; the writes to them are the dropping
   module _ (n p : ℕ) (is : p ≡ placeIn n (numbersIn s)) (h : p < count) where
     pub names-it : nth records p ≡ namer s n
-    names-it = entry s count records v p (omega arith) ∙ ap (nth (0 ∷ chainOf s)) is
+    names-it = entry (chainOf s) count records v p (omega arith) ∙ ap (nth (0 ∷ chainOf s)) is
 
     pub holds-it : nth records (p + 1) ≡ holder s n
-    holds-it = entry s count records v (p + 1) (omega arith) ∙ ap (nth (0 ∷ chainOf s)) (add-one p) ∙ ap (nth (chainOf s)) is
+    holds-it = entry (chainOf s) count records v (p + 1) (omega arith) ∙ ap (nth (0 ∷ chainOf s)) (add-one p) ∙ ap (nth (chainOf s)) is
 
     pub drop-writes : (l : ℕ) → l ≡ linkOf s (nth records (p + 1))
         → laid (rewritten s (nth records p) l (nth records (p + 1)) blank) s ≡ laid (droppedRecord s n) s
@@ -77,7 +81,7 @@ module _ (s : List ℕ) (count : ℕ) (records : List ℕ) (v : Lists s count re
   pub add-writes : (d : Domain) (k : ℕ) (b : List ℕ) → k ≡ newRecord s → b ≡ domainRecord 0 d
       → laid (rewritten s (nth records count) k k b) s ≡ laid (addedRecord s d) s
   add-writes d k b e is =
-      ap₂ (λ (x : ℕ) (l : List ℕ). laid (rewritten s x k k l) s) (entry-last s count records v) is
+      ap₂ (λ (x : ℕ) (l : List ℕ). laid (rewritten s x k k l) s) (entry-last (chainOf s) count records v) is
       ∙ ap (λ (y : ℕ). laid (rewritten s (lastRecord s) y y (domainRecord 0 d)) s) e
 
   -- the records of the listed chain, gathered
@@ -127,3 +131,16 @@ checks-are s p e d =
         ≡ firstOf (domainTable (periodIn s) (has (d .number) (numbersIn s)) (reservedOf (domainsIn s)) d) 0
     go true q = rw q
     go false q = ap (λ (m : Bool). firstOf (domainTable (periodIn s) m (reservedOf (domainsIn s)) d) 0) (met (within 16 (d .number) q .0))
+
+-- the link that is set and the records that are zeroed are the rescue
+pub rescue-writes : (s : List ℕ) (count : ℕ) (records : List ℕ) → Whole (length s) → Lists (keptRecords s) count records → (q : ℕ) → q ≡ lastOf 0 (keptRecords s)
+    → (let t = laid (withLink s q 0) s in laid (listedOnly t count records) t ≡ laid (rescuedRecord s) s)
+unfolding listedOnly unlistedIn rescuedRecord
+rescue-writes s count records whole v q e =
+    then-laid s q 0 whole (unlistedIn count records) blank
+    ∙ laid-agree s whole (λ (k : ℕ). cond (unlistedIn count records k) blank (withLink s q 0 k)) (rescuedRecord s)
+    (λ k h. ap₂ (λ (l : List ℕ) (i : ℕ). cond (not (has k l)) blank (withLink s i 0 k)) (v .front) e ∙ go k (has k (0 ∷ keptRecords s)))
+  where
+    go : (k : ℕ) (b : Bool) → cond (not b) blank (withLink s (lastOf 0 (keptRecords s)) 0 k) ≡ cond b (withLink s (lastOf 0 (keptRecords s)) 0 k) blank
+    go k true = refl
+    go k false = refl

@@ -13,7 +13,7 @@ use lib.Seq.{append-snoc}
 use Rattle.table.specs.Sums.{nth}
 use Rattle.table.specs.Members.{has, lastOf}
 use Rattle.table.proofs.Flags.{last-none, last-snoc}
-use Rattle.table.proofs.Lists.{has-first, has-later, has-either, has-nothing, has-left, has-right, has-side, has-no-image, differ, last-in, Apart, apart-less, apart-mid, apart-more}
+use Rattle.table.proofs.Lists.{has-first, has-later, has-either, has-nothing, has-left, has-right, has-side, has-no-image, differ, last-in, Apart, apart-less, apart-mid, apart-front, apart-more}
 use Rattle.plan.specs.Records.{recordAt, recordCount, periodIn, domainAt, numberAt}
 use Rattle.plan.specs.Chain.{unlisted, linkOf, link, faultAt, fault, goesOn, walk, chainOf}
 use Rattle.plan.proofs.Laws.Holding.{Fine}
@@ -95,7 +95,7 @@ orderly-some s xs z = (go (has 0 xs) refl, z .apart)
 pub orderly-inside : (s xs : List ℕ) → Orderly s xs → 16 ≤ length s → (j : ℕ) → has j (0 ∷ xs) ≡ true → j < recordCount s
 orderly-inside s xs z long j h = ⊎-elim (λ (e : j ≡ 0). omega arith) (λ (e : has j xs ≡ true). z .each j e .inside) (has-either j 0 xs h)
 
--- none, one record more, and one fewer
+-- none, one record more, one fewer, and the first of them
 pub orderly-none : (s : List ℕ) → Orderly s []
 orderly-none s = record { each = λ j h. has-nothing j h; apart = tt; numbers = tt }
 
@@ -120,6 +120,14 @@ orderly-less s xs i ys z =
       numbers =
           subst Apart (sym (map-append (numberAt s) xs ys))
           (apart-less (map (numberAt s) xs) (numberAt s i) (map (numberAt s) ys) (subst Apart (map-append (numberAt s) xs (i ∷ ys)) (z .numbers)));
+    }
+
+pub orderly-front : (s xs ys : List ℕ) → Orderly s (xs ++ ys) → Orderly s xs
+orderly-front s xs ys z =
+    record {
+      each = λ j h. z .each j (has-left j xs ys h);
+      apart = apart-front xs ys (z .apart);
+      numbers = apart-front (map (numberAt s) xs) (map (numberAt s) ys) (subst Apart (map-append (numberAt s) xs ys) (z .numbers));
     }
 
 -- no domain of theirs has number 0

@@ -1,4 +1,4 @@
--- `edit::adding::is_listed` meets its contract: the record is none of the entries passed by.
+-- `edit::chain::is_listed` meets its contract: the record is none of the entries passed by.
 -- Assumes nothing.
 use mathlib.Core.Path.{_≡_, sym, ap, _∙_}
 use mathlib.Core.Bool.{false}
@@ -9,8 +9,8 @@ use lib.ListN.{length, take}
 use Rattle.table.specs.Members.{has}
 use Rattle.table.proofs.Flags.{has-none}
 use Rattle.edit.proofs.Laws.Listing.{not-listed, listed}
-use Rattle.edit.proofs.adding.is_listed.Statement.{statement}
-use Rattle.edit.proofs.adding.is_listed.Tie as tie
+use Rattle.edit.proofs.chain.is_listed.Statement.{statement}
+use Rattle.edit.proofs.chain.is_listed.Tie as tie
 
 abbrev Inv-loop : tie.InvT-loop
 Inv-loop k l j₀ j = (j ≤ l .count + 1) × (length (l .records) ≡ 17) × (has k (take j (l .records)) ≡ false)
