@@ -1,2 +1,4 @@
--- Edits with what they answer and leave.
+-- Edits and rescues with what they answer and leave.
+pub mod Files
 pub mod Edits
+pub mod Rescues

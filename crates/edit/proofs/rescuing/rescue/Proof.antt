@@ -90,7 +90,7 @@ zero-others-requires c κs =
     let l = k .before .before .before in
     let e = l .before .before .before .before in
     let s = e .before .before .before .before .before .args .file .now in
-    (few l, subst Whole (sym (ap length (k .set-link .ensures) ∙ linked-length s _ 0 (whole e))) (whole e))
+    (few l, subst Whole (sym (ap length (k .set-link .ensures) ∙ linked-length s _ _ (whole e))) (whole e))
 
 same-length-2 : tie.Need-same-length-2
 same-length-2 c = search needs
