@@ -16,9 +16,10 @@ use Rattle.plan.specs.Reading.{acceptedReading, readPlan}
 use Rattle.edit.specs.Laying.{laid, blank, withLink}
 use Rattle.edit.specs.declared.rescuing.Rescued.{Rescued}
 
--- "The tool sets to 0 the link whose following draws the first refusal of 4 to 9 or 11": the link after the records of
--- `chainOf`, which are those before that refusal, so they are what is left; 10 and 12 are not drawn by following a link.
--- "then drops records from the end while the reservations sum above P": one at a time, so many of the first n are left.
+-- "The tool sets to 0 the link whose following draws the first refusal of 4 to 9 or 11": it is the link of the last record of
+-- `chainOf`, which are the records before that refusal, or of record 0 where there is none; those records are left.
+-- "then drops records from the end while the reservations sum above P": of the first n records so many are left, as one is
+-- dropped at a time.
 unfoldable pub remaining : List ℕ → ℕ → ℕ
 remaining s zero = 0
 remaining s (suc n) = cond (ltb (periodIn s) (reservedOf (take (suc n) (domainsIn s)))) (remaining s n) (suc n)
@@ -30,8 +31,8 @@ keptCount s = remaining s (length (chainOf s))
 abbrev pub keptRecords : List ℕ → List ℕ
 keptRecords s = take (keptCount s) (chainOf s)
 
--- "and zeroes all records off the chain": what record k becomes. The link that is 0 is that of the last record kept, or
--- that of record 0 where none is.
+-- "and zeroes all records off the chain": what record k becomes. The chain then ends with the last record kept, or with
+-- record 0 where none is: its link is 0.
 unfoldable pub rescuedRecord : List ℕ → ℕ → List ℕ
 rescuedRecord s k = cond (has k (0 ∷ keptRecords s)) (withLink s (lastOf 0 (keptRecords s)) 0 k) blank
 

@@ -62,6 +62,11 @@ sums =
     -- the link first: what stands behind it is not summed
     ∷ saves (head 4 1 ++ (one 2 ++ (two 3 ++ record16 0 17 0 2 0 0 0))) 2 (planA ++ zero16)
     ∷ saves (head 4 1 ++ (one 2 ++ (two 3 ++ (heavy 4 ++ light 1)))) 2 (planA ++ (zero16 ++ zero16))
+    -- all three steps: 7 in the record behind `light 5`, then the sum, and a leftover
+    ∷ saves
+    (head 4 1 ++ (one 2 ++ (two 3 ++ (heavy 4 ++ (light 5 ++ (light 0 ++ three 0))))))
+    2
+    (planA ++ (zero16 ++ (zero16 ++ (zero16 ++ zero16))))
     ∷ []
 
 -- leftovers, and files that are accepted already
