@@ -68,8 +68,8 @@ module _ (s : List ℕ) where
     where
       go : (b : Bool) → ltb (periodIn s) (sumTo (suc m)) ≡ b → Left m → Left (suc m)
       go true e v =
-          let is : remaining s (suc m) ≡ remaining s m = hit _ _ _ e in
           let over = ltb-true (periodIn s) (sumTo (suc m)) e in
+          let is = remaining-less m over in
           record {
             fits = subst (λ (k : ℕ). sumTo k ≤ periodIn s) (sym is) (v .fits);
             within = omega (arith, is, v .within);
@@ -80,9 +80,10 @@ module _ (s : List ℕ) where
           under n h f over (yes q) = absurd (omega (arith, ap sumTo q))
           under n h f over (no q) = omega arith
       go false e v =
-          let is : remaining s (suc m) ≡ suc m = miss _ _ _ e in
+          let fits = ltb-false (periodIn s) (sumTo (suc m)) e in
+          let is = remaining-all (suc m) fits in
           record {
-            fits = subst (λ (k : ℕ). sumTo k ≤ periodIn s) (sym is) (ltb-false (periodIn s) (sumTo (suc m)) e);
+            fits = subst (λ (k : ℕ). sumTo k ≤ periodIn s) (sym is) fits;
             within = omega (arith, is);
             most = λ n h f. omega (arith, is);
           }
@@ -101,12 +102,12 @@ module _ (s : List ℕ) where
 
   -- all of them where the sum is not above the period
   module _ (fits : reservedOf (domainsIn s) ≤ periodIn s) where
-    pub all-kept : keptCount s ≡ all
+    all-kept : keptCount s ≡ all
     all-kept =
         let same : take all (domainsIn s) ≡ domainsIn s = take-all all (domainsIn s) (omega (arith, length-map (chainOf s) (domainAt s))) in
         remaining-all all (omega (arith, ap reservedOf same))
 
-    pub whole-chain : keptRecords s ≡ chainOf s
+    whole-chain : keptRecords s ≡ chainOf s
     whole-chain = take-all (keptCount s) (chainOf s) (omega (arith, all-kept))
 
   split : chainOf s ≡ keptRecords s ++ rest
@@ -124,11 +125,11 @@ module _ (s : List ℕ) where
 
   -- the records of a rescued file: those of the chain that is left, and the others
   module _ (k : ℕ) where
-    pub on-chain : has k (0 ∷ keptRecords s) ≡ true → rescuedRecord s k ≡ withLink s (lastOf 0 (keptRecords s)) 0 k
+    on-chain : has k (0 ∷ keptRecords s) ≡ true → rescuedRecord s k ≡ withLink s (lastOf 0 (keptRecords s)) 0 k
     unfolding rescuedRecord
     on-chain e = hit _ _ _ e
 
-    pub off-chain : has k (0 ∷ keptRecords s) ≡ false → rescuedRecord s k ≡ blank
+    off-chain : has k (0 ∷ keptRecords s) ≡ false → rescuedRecord s k ≡ blank
     unfolding rescuedRecord
     off-chain e = miss _ _ _ e
 
@@ -174,17 +175,17 @@ module _ (s : List ℕ) where
         let inside : k < recordCount s = subst (λ (n : ℕ). k < n) (kept-count keeping) h in
         ap zeros (laid-to keeping k inside ∙ off-chain k (has-other k 0 (keptRecords s) (λ z. omega arith) ∙ e))
 
-    pub rescue-read : readPlan t ≡ acceptedReading (planOf (periodIn s) (take (keptCount s) (domainsIn s)))
+    rescue-read : readPlan t ≡ acceptedReading (planOf (periodIn s) (take (keptCount s) (domainsIn s)))
     rescue-read = intact-read intact off ∙ ap₂ (λ (P : ℕ) (ds : List Domain). acceptedReading (planOf P ds)) period domains
 
-    pub rescue-chain : chainOf t ≡ keptRecords s
+    rescue-chain : chainOf t ≡ keptRecords s
     rescue-chain = intact-chain intact
 
-    pub rescue-length : length t ≡ length s
+    rescue-length : length t ≡ length s
     rescue-length = kept-length keeping
 
     -- behind the records kept the walk goes on only to one that brings the sum above the period
-    pub rescue-next : goesOn s (keptRecords s) ≡ true → periodIn s < reservedOf (domainsAt s (keptRecords s ++ (link s (keptRecords s) ∷ [])))
+    rescue-next : goesOn s (keptRecords s) ≡ true → periodIn s < reservedOf (domainsAt s (keptRecords s ++ (link s (keptRecords s) ∷ [])))
     rescue-next on = go (ℕ-discrete (keptCount s) all)
       where
         go : Dec (keptCount s ≡ all) → periodIn s < reservedOf (domainsAt s (keptRecords s ++ (link s (keptRecords s) ∷ [])))
