@@ -10,8 +10,10 @@ pub const ADD: u32 = 1;
 
 pub const COMPACT: u32 = 2;
 
-// An edit that is not refused: the record dropped or taken, the one whose link changes, how many records are on the chain, and
-// the domain added.
+pub const RESCUE: u32 = 3;
+
+// An edit that is not refused: the record dropped or taken, the one whose link changes, how many records are on the chain, or are
+// left there by a rescue, and the domain added.
 pub struct Made {
     pub what: u32,
     pub one: u32,
@@ -113,6 +115,31 @@ fn compacted(old: &[u8], e: Made, index: u32, offset: u32) -> u32
     }
 }
 
+// Record 0 and the records left on the chain stay, but for the link of the last of them, which names none; all others are
+// zeroed.
+fn rescued(old: &[u8], e: Made, index: u32, offset: u32) -> u32
+    requires { ⌜ offset < 16 ⌝ }
+{
+    let which = link_byte(index, offset);
+    if index == e.linked {
+        if which < 2 {
+            return 0;
+        }
+    }
+    if stays(old, e.records, index) {
+        record::byte(old, index, offset)
+    } else {
+        0
+    }
+}
+
+fn stays(old: &[u8], records: u32, index: u32) -> bool {
+    if index == 0 {
+        return true;
+    }
+    chain::meets(old, records, index)
+}
+
 fn due(old: &[u8], e: Made, index: u32, offset: u32) -> u32
     requires { ⌜ (offset < 16) × (index < 64) ⌝ }
 {
@@ -120,6 +147,7 @@ fn due(old: &[u8], e: Made, index: u32, offset: u32) -> u32
     match what {
         DROP => dropped(old, e, index, offset),
         ADD => added(old, e, index, offset),
+        RESCUE => rescued(old, e, index, offset),
         _ => compacted(old, e, index, offset),
     }
 }

@@ -37,13 +37,15 @@ pub fn position(file: &[u8], number: u64) -> u32 {
 }
 
 // Whether the chain of so many records meets a record.
-fn meets(file: &[u8], most: u32, index: u32) -> bool {
+pub fn meets(file: &[u8], most: u32, index: u32) -> bool {
+    let mut at = 0;
     let mut k = 0;
     while k < most {
-        k += 1;
-        if nth(file, k) == index {
+        at = record::link(file, at);
+        if at == index {
             return true;
         }
+        k += 1;
     }
     false
 }

@@ -3,8 +3,10 @@
 pub mod adding;
 mod after;
 pub mod chain;
+mod rescuing;
 
 use model_plans::Answer;
+use model_plans::record;
 
 // The domain to add.
 pub struct Wanted {
@@ -16,14 +18,19 @@ pub struct Wanted {
     pub mark: bool,
 }
 
-// What an edit tells: the refusal, or 0, and its place.
+// What an edit tells: the refusal, or 0, its place, and how many records a rescue left on the chain, 0 for the other edits.
 pub struct Told {
     pub number: u32,
     pub place: u32,
+    pub kept: u32,
 }
 
 fn outcome(number: u32, place: u32) -> Told {
-    Told { number, place }
+    Told {
+        number,
+        place,
+        kept: 0,
+    }
 }
 
 fn none() -> Wanted {
@@ -74,4 +81,20 @@ pub fn compact(file: &mut [u8]) -> Told {
         after::rebuild(file, after::change(after::COMPACT, 0, 0, records, none()));
     }
     t
+}
+
+// What 1 to 3 refuse is kept. Of any other file the chain ends where the walk stops, and then before the records that fall.
+pub fn rescue(file: &mut [u8]) -> Told {
+    let opening = record::opening(file);
+    if opening != 0 {
+        return outcome(opening, 0);
+    }
+    let kept = rescuing::kept(file);
+    let last = chain::nth(file, kept);
+    after::rebuild(file, after::change(after::RESCUE, 0, last, kept, none()));
+    Told {
+        number: 0,
+        place: 0,
+        kept,
+    }
 }
