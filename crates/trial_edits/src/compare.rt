@@ -1,4 +1,5 @@
 // One edit by the library and by the model, each on bytes lent out of a larger buffer.
+use super::rescued;
 use super::seen;
 use edit::NewDomain;
 use model_edits::Told;
@@ -16,11 +17,11 @@ fn wide8(x: u8) -> u32 {
     x as u32
 }
 
-fn all3(a: bool, b: bool, c: bool) -> bool {
+pub fn all3(a: bool, b: bool, c: bool) -> bool {
     both(both(a, b), c)
 }
 
-fn same_bytes(a: &[u8; 1104], b: &[u8; 1104]) -> bool {
+pub fn same_bytes(a: &[u8; 1104], b: &[u8; 1104]) -> bool {
     check::same(a, b)
 }
 
@@ -32,7 +33,7 @@ fn byte_or_guard(file: &[u8], k: usize) -> u8 {
 }
 
 // The file between 32 guard bytes before it and as many or more behind.
-fn framed(file: &[u8]) -> [u8; 1104] {
+pub fn framed(file: &[u8]) -> [u8; 1104] {
     let mut all = [GUARD; 1104];
     let mut k: usize = 0;
     while k < 1040 {
@@ -53,13 +54,38 @@ fn wanted(d: NewDomain) -> Wanted {
     }
 }
 
-fn library_does(file: &mut [u8], c: Call) -> Refusal {
+// What the library tells of an edit; of all but a rescue no record counts as kept.
+struct Answered {
+    refused: u32,
+    place: u32,
+    kept: u64,
+}
+
+fn refusal_told(r: Refusal) -> Answered {
+    Answered {
+        refused: wide8(r.refused),
+        place: values::wide(r.place),
+        kept: 0,
+    }
+}
+
+fn rescue_told(file: &mut [u8]) -> Answered {
+    let r = edit::rescue(file);
+    Answered {
+        refused: wide8(r.refused),
+        place: values::wide(r.place),
+        kept: r.kept as u64,
+    }
+}
+
+fn library_does(file: &mut [u8], c: Call) -> Answered {
     let d = c.domain;
     let what = c.what;
     match what {
-        calls::DROP => edit::drop_domain(file, d.number),
-        calls::ADD => edit::add_domain(file, d),
-        _ => edit::compact(file),
+        calls::DROP => refusal_told(edit::drop_domain(file, d.number)),
+        calls::ADD => refusal_told(edit::add_domain(file, d)),
+        calls::RESCUE => rescue_told(file),
+        _ => refusal_told(edit::compact(file)),
     }
 }
 
@@ -69,6 +95,7 @@ fn model_does(file: &mut [u8], c: Call) -> Told {
     match what {
         calls::DROP => model_edits::drop_domain(file, d.number),
         calls::ADD => model_edits::add_domain(file, wanted(d)),
+        calls::RESCUE => model_edits::rescue(file),
         _ => model_edits::compact(file),
     }
 }
@@ -146,11 +173,24 @@ fn compact_already(file: &[u8]) -> bool {
     both(r.refused == 0, same_bytes(&a, &b))
 }
 
-// Whether a file holds after an edit what it has to: every byte as before where it was refused, and else the plan due, with two
-// records changed at most, or none by a further compaction.
-fn holds(before: &[u8], after: &[u8], c: Call, number: u32) -> bool {
-    if number != 0 {
-        return check::same(before, after);
+// Whether reading refuses a file that a rescue refused, with the same number.
+fn still_refused(file: &[u8], c: Call, m: Told) -> bool {
+    if c.what == calls::RESCUE {
+        let a = model_plans::read(file);
+        both(a.number == m.number, m.number <= 3)
+    } else {
+        true
+    }
+}
+
+// Whether a file holds after an edit what it has to: every byte as before where it was refused, what a rescue has to leave, and
+// else the plan due, with two records changed at most, or none by a further compaction.
+fn holds(before: &[u8], after: &[u8], c: Call, m: Told) -> bool {
+    if m.number != 0 {
+        return both(check::same(before, after), still_refused(after, c, m));
+    }
+    if c.what == calls::RESCUE {
+        return rescued::holds(before, after, m.kept);
     }
     let a = model_plans::read_with_leftovers(before);
     let domains = a.domains;
@@ -162,37 +202,34 @@ fn holds(before: &[u8], after: &[u8], c: Call, number: u32) -> bool {
     both(kept, reads(after, a.period, words_due(domains, c)))
 }
 
-// What the model tells of an edit, with its place, and whether the library tells and does the same.
+// What the model tells of an edit, with its place and the records kept, and whether the library tells and does the same.
 pub struct Outcome {
     pub verdict: Verdict,
     pub place: u32,
+    pub kept: u32,
 }
 
 // A file that the library has edited where it was lent out of a larger buffer, and what it told.
 struct Edited {
-    refused: u32,
-    place: u32,
+    told: Answered,
     all: [u8; 1104],
 }
 
 fn made(file: &[u8], c: Call) -> Edited {
     let end = 32 + bytes::least(file.len(), 1040);
     let mut all = framed(file);
-    let r = library_does(&mut all[32..end], c);
-    Edited {
-        refused: wide8(r.refused),
-        place: values::wide(r.place),
-        all,
-    }
+    let told = library_does(&mut all[32..end], c);
+    Edited { told, all }
 }
 
 // Whether the library told and left the same as the model, which left the file, with no byte changed around it.
 fn alike(l: Edited, m: Told, file: &[u8]) -> bool {
     let all = l.all;
+    let told = l.told;
     let due = framed(file);
     all3(
-        l.refused == m.number,
-        l.place == m.place,
+        both(told.refused == m.number, told.place == m.place),
+        told.kept == words::wider(m.kept),
         same_bytes(&all, &due),
     )
 }
@@ -203,13 +240,14 @@ pub fn tried(file: &mut [u8], c: Call, seen: &mut [u32]) -> Outcome {
     let old = framed(file);
     let l = made(file, c);
     let m = model_does(file, c);
-    let right = holds(&old[32..end], file, c, m.number);
-    seen::count(&old[32..end], file, c, m.number, seen);
+    let right = holds(&old[32..end], file, c, m);
+    seen::count(&old[32..end], file, c, m, seen);
     Outcome {
         verdict: Verdict {
             number: m.number,
             same: both(alike(l, m, file), right),
         },
         place: m.place,
+        kept: m.kept,
     }
 }

@@ -9,11 +9,12 @@ use trial_kit::tally::Tally;
 
 mod compare;
 mod report;
+mod rescued;
 mod seen;
 mod stated;
 
 // Kind 0 are the stated cases.
-const KINDS: u32 = 18;
+const KINDS: u32 = 30;
 
 // How many files each kind has.
 fn cases(kind: u32) -> u32 {
@@ -28,6 +29,14 @@ fn cases(kind: u32) -> u32 {
         15 => 1041,
         16 => 300,
         17 => 150,
+        18 => 11424,
+        19 => 3808,
+        20 | 21 => 2048,
+        22 => 7616,
+        26 => 2400,
+        27 => 1041,
+        28 => 720,
+        29 => 400,
         _ => 3000,
     }
 }
@@ -102,10 +111,11 @@ fn try_kinds(before: Tally, seen: &mut [u32]) -> Tally {
 
 // The stated cases and those of all kinds, given the text that states them.
 fn try_all(given: &[u8]) {
-    let mut seen = [0u32; 92];
+    let mut seen = [0u32; 264];
     let before = stated::cases(tally::start(), given, &mut seen);
     let t = try_kinds(before, &mut seen);
     seen::lines(&seen);
+    rescued::lines(&seen);
     report::last_lines(t);
 }
 

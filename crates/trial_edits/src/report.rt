@@ -22,7 +22,19 @@ fn say_kind(kind: u32) {
         records of small fields\n\
         files of every length\n\
         edits one after the other\n\
-        sixteen domains, dropped and added\n",
+        sixteen domains, dropped and added\n\
+        rescued: 4 to 9 and 11 at each place of each chain\n\
+        rescued: each link led elsewhere\n\
+        rescued: sums of P and P + 1\n\
+        rescued: sums far above P\n\
+        rescued: a sum above P and a fault\n\
+        rescued: files that are accepted\n\
+        rescued: leftovers alone\n\
+        rescued: any bytes behind record 0\n\
+        rescued: one byte of a good file\n\
+        rescued: files of every length\n\
+        rescued: files refused with 1 to 3\n\
+        rescued and edited, one after the other\n",
         kind as usize,
     );
 }

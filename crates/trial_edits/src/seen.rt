@@ -1,6 +1,8 @@
 // What the edits came to, counted, so that a program that does nothing is noticed.
 ghost use Prim.Native.Nat.{_<_, _≤_};
+use super::rescued;
 use edit::NewDomain;
+use model_edits::Told;
 use model_edits::adding;
 use model_edits::chain;
 use model_plans::Answer;
@@ -12,8 +14,9 @@ use trial_kit::lines::say_nth;
 use trial_kit::report;
 use trial_kit::tally::both;
 
-// The counts are lent, in the order of the names below. Three rows of 15 say how often each edit was done, and refused with 1 to
-// 12, 71 and 72. Five rows of five say for 6, 7, 9, 11 and 10 which of 7, 9, 11, 10 and 71 would have been told after it.
+// The counts are lent, in the order of the names below. Three rows of 15 say how often each edit but a rescue was done, and
+// refused with 1 to 12, 71 and 72. Five rows of five say for 6, 7, 9, 11 and 10 which of 7, 9, 11, 10 and 71 would have been told
+// after it. Behind stand the counts of `rescued`.
 const DROPPED: usize = 45;
 
 const TAKEN: usize = 49;
@@ -220,7 +223,15 @@ fn count_compact(file: &[u8], after: &[u8], refused: u32, seen: &mut [u32]) {
 }
 
 // Counts an edit, given the file before, and after with any bytes behind.
-pub fn count(file: &[u8], after: &[u8], c: Call, number: u32, seen: &mut [u32]) {
+pub fn count(file: &[u8], after: &[u8], c: Call, m: Told, seen: &mut [u32]) {
+    if c.what == calls::RESCUE {
+        rescued::count(file, after, m.number, m.kept, seen);
+    } else {
+        count_edit(file, after, c, m.number, seen);
+    }
+}
+
+fn count_edit(file: &[u8], after: &[u8], c: Call, number: u32, seen: &mut [u32]) {
     let d = c.domain;
     let what = c.what;
     raise(seen, 15 * (what % 3) as usize + column(number));

@@ -8,11 +8,14 @@
 //   drop N                         the edit: the domain of this number is dropped
 //   add N Q R W V M                a domain is added; V is the writeback reservation, M 1 where it is marked
 //   compact                        the file is compacted
+//   rescue                         the file is rescued
 //   then K N N N N N N             record K of the file due after the edit: six numbers of two bytes, and zeros
 //   due N K                        the edit tells this refusal (0 for none) and place, and leaves the file due
+//   due N K R                      a rescue tells these and how many records it kept, which may not be left out
 // Numbers of the lines from `drop` on have any count of digits, up to 64 bits. The file due is the plan file as it stands when
 // the edit is named, but for what `then` says, and is the plan file behind `due`. All else begins anew with `case`.
 use super::compare;
+use model_plans::words;
 use trial_files::calls;
 use trial_files::calls::Call;
 use trial_kit::bytes;
@@ -102,6 +105,7 @@ fn call_of(given: &[u8], at: usize) -> Call {
                 field(given, at, 6) == 1,
             ),
         },
+        b'r' => calls::rescue(),
         _ => calls::compact(),
     }
 }
@@ -170,8 +174,20 @@ fn stand_after(s: Stand, given: &[u8], at: usize, file: &mut [u8], due: &mut [u8
     match sort(given, at) {
         b'a' => next_case(s, at, file),
         b'i' | b't' => with_size(s, put_in_file(file, s.size, given, at)),
-        b'r' | b'd' | b'o' => with_call(s, at, file, due),
+        b'r' | b'd' | b'o' | b'e' => with_call(s, at, file, due),
         _ => s,
+    }
+}
+
+// Whether so many records kept are due of an edit: of a rescue the number has to stand there.
+fn is_kept_due(given: &[u8], at: usize, what: u32, kept: u32) -> bool {
+    if what == calls::RESCUE {
+        both(
+            behind(given, at, 3) < lines::line_end(given, at),
+            field(given, at, 3) == words::wider(kept),
+        )
+    } else {
+        true
     }
 }
 
@@ -185,11 +201,13 @@ fn compared(
     seen: &mut [u32],
 ) -> Verdict {
     let size = bytes::least(s.size, file.len());
-    let o = compare::tried(&mut file[0..size], call_of(given, s.called), seen);
+    let c = call_of(given, s.called);
+    let o = compare::tried(&mut file[0..size], c, seen);
     let v = o.verdict;
-    let told = both(
+    let told = compare::all3(
         v.number == small(given, at, 1),
         o.place == small(given, at, 2),
+        is_kept_due(given, at, c.what, o.kept),
     );
     let same = both(both(v.same, told), check::same(file, due));
     copy(file, due);

@@ -9,7 +9,9 @@ pub const ADD: u32 = 1;
 
 pub const COMPACT: u32 = 2;
 
-// An edit; the number alone counts where a domain is dropped, and nothing where the file is compacted.
+pub const RESCUE: u32 = 3;
+
+// An edit; the number alone counts where a domain is dropped, and nothing where the file is compacted or rescued.
 pub struct Call {
     pub what: u32,
     pub domain: NewDomain,
@@ -36,6 +38,13 @@ pub fn drop_of(number: u64) -> Call {
 pub fn compact() -> Call {
     Call {
         what: COMPACT,
+        domain: domain(0, 0, 0, 0, 0, false),
+    }
+}
+
+pub fn rescue() -> Call {
+    Call {
+        what: RESCUE,
         domain: domain(0, 0, 0, 0, 0, false),
     }
 }
@@ -234,6 +243,15 @@ fn sequence(file: &[u8], seed: u32) -> Call {
     }
 }
 
+// A file that reading refuses, rescued after one edit more, and then edited and rescued again.
+fn around_rescue(file: &[u8], k: u32, seed: u32) -> Call {
+    match k {
+        0 => mixed(file, draw::upto(seed, 920, 2), seed),
+        1 | 5 | 9 => rescue(),
+        _ => sequence(file, seed),
+    }
+}
+
 // Edits of a file that reading refuses: with a domain that may be there, with 72, 6, 7, 9, 11 or 10 beside, and none.
 fn beside(file: &[u8], k: u32, seed: u32) -> Call {
     match k {
@@ -251,9 +269,10 @@ fn beside(file: &[u8], k: u32, seed: u32) -> Call {
 // How many edits a file of the kind has, one after the other.
 pub fn edits(kind: u32) -> u32 {
     match kind {
-        1..=7 => 1,
+        1..=7 | 18..=28 => 1,
         8 => 8,
         9 | 10 => 5,
+        29 => 10,
         16 => 24,
         17 => 32,
         _ => 3,
@@ -273,6 +292,8 @@ pub fn drawn(file: &[u8], kind: u32, case: u32, k: u32, seed: u32) -> Call {
         8 => beside(file, k, seed),
         16 => sequence(file, seed),
         17 => mixed(file, k % 2, draw::draw(seed, 919)),
+        18..=28 => rescue(),
+        29 => around_rescue(file, k, seed),
         _ => mixed(file, k, seed),
     }
 }

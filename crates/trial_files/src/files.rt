@@ -1,4 +1,5 @@
 // The files of each kind, put where all bytes are zero.
+use super::rescues;
 use trial_kit::bytes;
 use trial_kit::chain;
 use trial_kit::chain::Chain;
@@ -105,6 +106,7 @@ pub fn put(file: &mut [u8], kind: u32, case: u32, seed: u32) -> u32 {
         9 => over(file, bytes::ANY, seed),
         10 => over(file, bytes::SMALL, seed),
         11..=15 => put_rough(file, kind, case, seed),
+        18..=29 => rescues::put(file, kind, case, seed),
         _ => good(file, seed),
     }
 }

@@ -62,10 +62,31 @@ fn with_domain(file: &mut [u8], p: Plan, order: [u32; 64], l: Laid, domain: u32)
     }
 }
 
+// How the records of a chain stand in the file: one behind the other, one before the other from the last on, or as drawn.
+const RISING: u32 = 0;
+
+const FALLING: u32 = 1;
+
+const DRAWN: u32 = 2;
+
+// The first so many records from 1 up in such an order.
+fn order_of(way: u32, most: u32, seed: u32) -> [u32; 64] {
+    match way {
+        RISING => draw::row(most, false),
+        FALLING => draw::row(most, true),
+        _ => draw::shuffled(seed, 500, most),
+    }
+}
+
 // Lays a plan into so many records, those off the chain left as they are. The chain's order and its records are drawn.
 pub fn lay(file: &mut [u8], p: Plan, records: u32, seed: u32) -> Chain {
+    lay_in(file, p, records, DRAWN, seed)
+}
+
+// Lays a plan with the chain's records in rising, falling or drawn order.
+pub fn lay_in(file: &mut [u8], p: Plan, records: u32, way: u32, seed: u32) -> Chain {
     let most = if records == 0 { 0 } else { records - 1 };
-    let order = draw::shuffled(seed, 500, most);
+    let order = order_of(way, most, seed);
     let domains = draw::shuffled(seed, 600, 16);
     let period = values::wide(p.period);
     bytes::put_record(file, 0, period, 0, 0, 0, 0, 0);

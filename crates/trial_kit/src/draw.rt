@@ -59,6 +59,27 @@ pub fn shuffled(seed: u32, salt: u32, n: u32) -> [u32; 64] {
     order
 }
 
+// The number at a place of a row of those below n.
+fn in_row(n: u32, place: u32, falling: bool) -> u32 {
+    if falling {
+        if place < n {
+            return n - 1 - place;
+        }
+    }
+    place
+}
+
+// The numbers below 64 in rising order, or first those below n in falling order.
+pub fn row(n: u32, falling: bool) -> [u32; 64] {
+    let mut order = [0u32; 64];
+    let mut i: u32 = 0;
+    while i < 64 {
+        order[i as usize] = in_row(n, i, falling);
+        i += 1;
+    }
+    order
+}
+
 // An entry of such an order.
 pub fn entry(order: [u32; 64], k: u32) -> u32
     ensures { λ r. ⌜ r < 64 ⌝ }

@@ -1,8 +1,9 @@
 // What the test programs share: bytes put and filled, plans laid into files as chains, faults put into them, the records of a
 // file off its chain, drawn numbers, drawn plans, the lines of a text, plan files given as such lines, the counts of what was
-// compared, and their lines.
+// compared, counts of other things, and the lines of both.
 pub mod bytes;
 pub mod chain;
+pub mod counts;
 pub mod draw;
 pub mod faults;
 pub mod files;

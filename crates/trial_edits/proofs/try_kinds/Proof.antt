@@ -8,10 +8,10 @@ use Rattle.trial_edits.proofs.try_kinds.Statement.{statement}
 use Rattle.trial_edits.proofs.try_kinds.Tie as tie
 
 abbrev Inv-loop : tie.InvT-loop
-Inv-loop seen₀ t₀ kind₀ seen t kind = (kind ≤ 18) × (length seen ≡ length seen₀)
+Inv-loop seen₀ t₀ kind₀ seen t kind = (kind ≤ 30) × (length seen ≡ length seen₀)
 
 abbrev μ-loop : tie.MeasureT-loop
-μ-loop seen₀ t₀ kind₀ seen t kind = 18 - kind
+μ-loop seen₀ t₀ kind₀ seen t kind = 30 - kind
 
 pub try-kinds-spec : {M : Type 1} → statement M
 try-kinds-spec =
