@@ -10,8 +10,8 @@ use model_plans::words;
 use trial_files::calls;
 use trial_files::calls::Call;
 use trial_kit::bytes::least;
+use trial_kit::counts;
 use trial_kit::lines::say_nth;
-use trial_kit::report;
 use trial_kit::tally::both;
 
 // The counts are lent, in the order of the names below. Three rows of 15 say how often each edit but a rescue was done, and
@@ -30,25 +30,6 @@ const COMPACTED: usize = 80;
 const CUT: usize = 84;
 
 const ADDED: usize = 88;
-
-fn value(seen: &[u32], k: usize) -> u32 {
-    if k < seen.len() { seen[k] } else { 0 }
-}
-
-fn raise(seen: &mut [u32], k: usize) {
-    if k < seen.len() {
-        let x = seen[k];
-        if x < 1000000000 {
-            seen[k] = x + 1;
-        }
-    }
-}
-
-fn raise_if(seen: &mut [u32], k: usize, yes: bool) {
-    if yes {
-        raise(seen, k);
-    }
-}
 
 // The place of a refusal in its row.
 fn column(number: u32) -> usize
@@ -120,9 +101,9 @@ fn count_drop(file: &[u8], number: u64, refused: u32, seen: &mut [u32]) {
     match refused {
         0 => {
             let at = standing(chain::position(file, number), chain::records(file));
-            raise(seen, DROPPED + at);
+            counts::raise(seen, DROPPED + at, 1);
         }
-        72 => raise(seen, CUT + cut(file, number)),
+        72 => counts::raise(seen, CUT + cut(file, number), 1),
         _ => (),
     }
 }
@@ -162,10 +143,10 @@ fn row(number: u32) -> usize
 // A domain refused with 6, 7, 9, 11 or 10: what else would be told of it.
 fn count_later(a: Answer, d: NewDomain, free: u32, number: u32, seen: &mut [u32]) {
     let first = row(number);
-    raise_if(seen, SUMS + 1, both(number == 10, comes_to(a, d, 1)));
+    counts::raise_if(seen, SUMS + 1, both(number == 10, comes_to(a, d, 1)));
     let mut which: usize = 0;
     while which < 5 {
-        raise_if(seen, LATER + 5 * first + which, would(a, d, free, which));
+        counts::raise_if(seen, LATER + 5 * first + which, would(a, d, free, which));
         which += 1;
     }
 }
@@ -183,10 +164,10 @@ fn comes_to(a: Answer, d: NewDomain, more: u64) -> bool
 // A domain that was added: where, whether P is reached, whether marked, and whether with a writeback reservation.
 fn count_added(file: &[u8], a: Answer, d: NewDomain, seen: &mut [u32]) {
     let at = taking(file, chain::records(file));
-    raise(seen, TAKEN + at);
-    raise_if(seen, SUMS, comes_to(a, d, 0));
+    counts::raise(seen, TAKEN + at, 1);
+    counts::raise_if(seen, SUMS, comes_to(a, d, 0));
     let sort = words::one_if(d.marked) + 2 * words::one_if(d.writebackreservation > 0);
-    raise(seen, ADDED + sort as usize);
+    counts::raise(seen, ADDED + sort as usize, 1);
 }
 
 fn count_add(file: &[u8], d: NewDomain, refused: u32, seen: &mut [u32]) {
@@ -218,7 +199,7 @@ fn compacting(file: &[u8], after: &[u8]) -> usize
 
 fn count_compact(file: &[u8], after: &[u8], refused: u32, seen: &mut [u32]) {
     if refused == 0 {
-        raise(seen, COMPACTED + compacting(file, after));
+        counts::raise(seen, COMPACTED + compacting(file, after), 1);
     }
 }
 
@@ -234,7 +215,7 @@ pub fn count(file: &[u8], after: &[u8], c: Call, m: Told, seen: &mut [u32]) {
 fn count_edit(file: &[u8], after: &[u8], c: Call, number: u32, seen: &mut [u32]) {
     let d = c.domain;
     let what = c.what;
-    raise(seen, 15 * (what % 3) as usize + column(number));
+    counts::raise(seen, 15 * (what % 3) as usize + column(number), 1);
     match what {
         calls::DROP => count_drop(file, d.number, number, seen),
         calls::ADD => count_add(file, d, number, seen),
@@ -263,9 +244,7 @@ fn say_name(k: usize) {
 }
 
 // How many counts stand under a name.
-fn width(name: usize) -> usize
-    ensures { λ r. ⌜ r ≤ 15 ⌝ }
-{
+fn width(name: usize) -> usize {
     match name {
         0..=2 => 15,
         5..=9 => 5,
@@ -274,27 +253,13 @@ fn width(name: usize) -> usize
     }
 }
 
-// A name, and so many counts from one on.
-fn say_counts(seen: &[u32], name: usize, from: usize, counts: usize)
-    requires { ⌜ (from < 92) × (counts ≤ 15) ⌝ }
-{
-    say_name(name);
-    report::say(b":");
-    let mut k: usize = 0;
-    while k < counts {
-        report::say_number(b" ", value(seen, from + k));
-        k += 1;
-    }
-    report::say(b"\n");
-}
-
 pub fn lines(seen: &[u32]) {
     let mut from: usize = 0;
     let mut name: usize = 0;
     while name < 14 {
-        let counts = width(name);
-        say_counts(seen, name, from % 92, counts);
-        from = std::num::wrapping_add_usize(from, counts);
+        say_name(name);
+        counts::say_row(seen, from, width(name));
+        from = std::num::wrapping_add_usize(from, width(name));
         name += 1;
     }
 }

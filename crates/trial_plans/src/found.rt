@@ -4,6 +4,7 @@ use super::leftovers;
 use super::seen;
 use model_plans::words;
 use trial_kit::bytes;
+use trial_kit::counts;
 
 // The place of the only byte of a record that is not zero; 16 where there are more.
 fn alone(file: &[u8], record: u32) -> usize {
@@ -37,11 +38,11 @@ fn standing(record: u32) -> usize
 fn count_twelve(file: &[u8], record: u32, seen: &mut [u32]) {
     let r = plan::read_with_leftovers(file);
     let offset = alone(file, record);
-    seen::raise(seen, seen::LEFTOVERS, 1);
-    seen::raise(seen, seen::LEFTOVERS + 1, words::one_if(r.refused == 0));
-    seen::raise(seen, seen::LEFTOVERS + 2 + standing(record), 1);
+    counts::raise(seen, seen::LEFTOVERS, 1);
+    counts::raise(seen, seen::LEFTOVERS + 1, words::one_if(r.refused == 0));
+    counts::raise(seen, seen::LEFTOVERS + 2 + standing(record), 1);
     if offset < 16 {
-        seen::raise(seen, seen::LEFTOVERS + 6 + offset, 1);
+        counts::raise(seen, seen::LEFTOVERS + 6 + offset, 1);
     }
 }
 
@@ -49,9 +50,9 @@ fn count_twelve(file: &[u8], record: u32, seen: &mut [u32]) {
 fn count_largest(records: u32, number: u32, seen: &mut [u32]) {
     let at = seen::LEFTOVERS + 33 + words::one_if(number == 12) as usize;
     match records {
-        0 => seen::raise(seen, at, 1),
-        1 => seen::raise(seen, at + 2, 1),
-        16 => seen::raise(seen, at + 4, 1),
+        0 => counts::raise(seen, at, 1),
+        1 => counts::raise(seen, at + 2, 1),
+        16 => counts::raise(seen, at + 4, 1),
         _ => (),
     }
 }
@@ -70,7 +71,7 @@ fn count_size(file: &[u8], number: u32, seen: &mut [u32]) {
 // A refusal of 1 to 11 in a file with a leftover.
 fn count_beside(number: u32, kind: u32, seen: &mut [u32]) {
     if kind == leftovers::BESIDE {
-        seen::raise(seen, seen::LEFTOVERS + 21 + (number % 12) as usize, 1);
+        counts::raise(seen, seen::LEFTOVERS + 21 + (number % 12) as usize, 1);
     }
 }
 

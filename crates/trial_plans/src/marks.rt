@@ -3,6 +3,7 @@ use super::seen;
 use model_plans::words;
 use plan::Plan;
 use trial_kit::bytes;
+use trial_kit::counts;
 use trial_kit::values;
 
 // How many domains are marked.
@@ -45,7 +46,7 @@ pub fn count_value(p: Plan, seen: &mut [u32]) {
     let t = model_plans::check(values::wide(p.period), domains);
     let number = t.number;
     match number {
-        0 => seen::raise(seen, seen::MARKS, marked(domains)),
+        0 => counts::raise(seen, seen::MARKS, marked(domains)),
         9 => count_nine(domains, t.place, seen),
         _ => (),
     }
@@ -54,9 +55,9 @@ pub fn count_value(p: Plan, seen: &mut [u32]) {
 // A value refused with 9 at a domain: for its mark alone, or beside such a domain of a higher number.
 fn count_nine(domains: [u32; 96], place: u32, seen: &mut [u32]) {
     if mark_alone(domains, place) {
-        seen::raise(seen, seen::MARKS + 1, 1);
+        counts::raise(seen, seen::MARKS + 1, 1);
     } else {
-        seen::raise(seen, seen::MARKS + 2, words::one_if(any_alone(domains)));
+        counts::raise(seen, seen::MARKS + 2, words::one_if(any_alone(domains)));
     }
 }
 
@@ -74,7 +75,7 @@ fn count_eight(file: &[u8], record: u32, seen: &mut [u32]) {
         seen::MARKS + 5
     };
     if (low | high) == 0 {
-        seen::raise(seen, at, 1);
+        counts::raise(seen, at, 1);
     }
 }
 
@@ -84,7 +85,7 @@ pub fn count_file(file: &[u8], seen: &mut [u32]) {
     let domains = a.domains;
     let number = a.number;
     match number {
-        0 => seen::raise(seen, seen::MARKS + 3, marked(domains)),
+        0 => counts::raise(seen, seen::MARKS + 3, marked(domains)),
         8 => count_eight(file, a.place, seen),
         _ => (),
     }

@@ -1,9 +1,9 @@
 // What the walks came to: where on the chain they ended and which sums they told, so that a program that does nothing is
 // noticed.
-ghost use Prim.Native.Nat.{_<_, _≤_};
+ghost use Prim.Native.Nat.{_<_};
 use trial_kit::bytes;
+use trial_kit::counts;
 use trial_kit::lines::say_nth;
-use trial_kit::report;
 use trial_kit::tally;
 use trial_kit::tally::Tally;
 use trial_kit::tally::Verdict;
@@ -106,25 +106,12 @@ pub fn of_value(v: Verdict) -> Outcome {
     }
 }
 
-fn count(seen: &[u32], k: usize) -> u32 {
-    if k < seen.len() { seen[k] } else { 0 }
-}
-
-pub fn raise(seen: &mut [u32], k: usize, by: u32) {
-    if k < seen.len() {
-        let x = seen[k];
-        if x < 1000000000 {
-            seen[k] = x + by % 65536;
-        }
-    }
-}
-
 // The tally and the counts with a case more.
 pub fn counted(t: Tally, kind: u32, case: u32, o: Outcome, seen: &mut [u32]) -> Tally {
     let v = o.verdict;
-    raise(seen, SUMS, o.records);
-    raise(seen, o.end, 1);
-    raise(seen, o.sums, 1);
+    counts::raise(seen, SUMS, o.records);
+    counts::raise(seen, o.end, 1);
+    counts::raise(seen, o.sums, 1);
     tally::counted(t, kind, case, v)
 }
 
@@ -166,24 +153,8 @@ fn say_name(k: usize) {
     );
 }
 
-// A name, and so many counts from one on.
-fn say_counts(seen: &[u32], name: usize, from: usize, counts: usize)
-    requires { ⌜ (from < 230) × (counts < 230) ⌝ }
-{
-    say_name(name);
-    report::say(b":");
-    let mut k: usize = 0;
-    while k < counts {
-        report::say_number(b" ", count(seen, from + k));
-        k += 1;
-    }
-    report::say(b"\n");
-}
-
 // How many counts stand under a name.
-fn width(name: usize) -> usize
-    ensures { λ r. ⌜ r ≤ 17 ⌝ }
-{
+fn width(name: usize) -> usize {
     match name {
         0..=9 => 17,
         16 | 30 => 6,
@@ -199,9 +170,9 @@ pub fn lines(seen: &[u32]) {
     let mut from: usize = 0;
     let mut name: usize = 0;
     while name < 31 {
-        let counts = width(name);
-        say_counts(seen, name, from % 230, counts);
-        from = std::num::wrapping_add_usize(from, counts);
+        say_name(name);
+        counts::say_row(seen, from, width(name));
+        from = std::num::wrapping_add_usize(from, width(name));
         name += 1;
     }
 }

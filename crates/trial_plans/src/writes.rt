@@ -3,6 +3,7 @@ ghost use Prim.Native.Nat.{_<_, _≤_};
 use super::seen;
 use model_plans::words;
 use plan::Plan;
+use trial_kit::counts;
 use trial_kit::values;
 
 // How a writeback reservation stands: 0 none, 1 below W, 2 at W, 3 one above, 4 more, and 5 above P.
@@ -29,7 +30,7 @@ fn count_domains(domains: [u32; 96], period: u32, seen: &mut [u32]) -> u64 {
         n += 1;
         let v = words::word(domains, n, 4);
         let at = standing(v, words::word(domains, n, 3), period);
-        seen::raise(seen, seen::WRITES + at, words::word(domains, n, 0));
+        counts::raise(seen, seen::WRITES + at, words::word(domains, n, 0));
         sum += words::wider(words::word(domains, n, 1));
     }
     sum
@@ -74,6 +75,6 @@ pub fn count(p: Plan, seen: &mut [u32]) {
     let sum = count_domains(domains, period, seen);
     let t = model_plans::check(period, domains);
     if telling(t.number, t.place, domains, period, sum) {
-        seen::raise(seen, seen::WRITES + name_of(t.number), 1);
+        counts::raise(seen, seen::WRITES + name_of(t.number), 1);
     }
 }
