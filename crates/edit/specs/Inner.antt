@@ -1,4 +1,4 @@
--- What the functions inside say beside the definitions: a file of which one record is replaced, and the chain as an array.
+-- What the functions inside say beside the definitions: a file of which records are replaced, and a chain as an array.
 -- Assumes nothing.
 use Prim.Native.Nat.{ℕ, _+_, _≤_}
 use mathlib.Core.Path.{_≡_}

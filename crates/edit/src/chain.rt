@@ -25,8 +25,7 @@ pub(crate) fn link_of(file: &[u8], k: usize) -> u16
     plan::u16_at(plan::record_part(file, k), 0)
 }
 
-// The first records of the chain, so many of them. The walk has told that they are there, so the links are followed without a
-// check.
+// The first `count` records of the chain. The walk has told that they are there, so the links are followed without a check.
 pub(crate) fn list_first(file: &[u8], count: usize) -> Indices
     requires { ⌜ (16 ≤ length (now file)) × (count ≤ length (chainOf (now file))) ⌝ }
     ensures { λ r. ⌜ Lists (take count (chainOf (now (file .entry)))) (r .count) (r .records) ⌝ }
@@ -50,7 +49,7 @@ pub(crate) fn list_chain(file: &[u8]) -> Indices
     list_first(file, told.records)
 }
 
-// Is record k record 0 or one of the others?
+// Is record k among those listed? Record 0 is.
 pub(crate) fn is_listed(l: Indices, k: usize) -> bool
     requires { ⌜ l .count ≤ 16 ⌝ }
     ensures { λ r. ⌜ r ≡ has k (take (l .count + 1) (l .records)) ⌝ }

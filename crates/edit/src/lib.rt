@@ -6,7 +6,7 @@
 // or a refusal of reading with its place, or 6, 7, 9, 11, 10 or 71.
 // compact(file): moves the chain's records to the front in chain order, relinks them and zeroes the others, for any bytes; or a
 // refusal of reading by the earlier rule, which takes leftovers.
-// rescue(file): ends the chain before the record that draws 4 to 9 or 11, drops records from its end while the reservations sum
+// rescue(file): ends the chain at the first link that draws 4 to 9 or 11, drops records from its end while the reservations sum
 // above the period, and zeroes the records off it, for any bytes; or a refusal 1 to 3. Its output is accepted.
 //
 // A refused edit keeps every byte.

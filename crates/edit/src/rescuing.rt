@@ -12,7 +12,7 @@ ghost use Rattle.edit.specs.Laying.{laid};
 ghost use Rattle.edit.specs.Rescue.{keptCount, staysRefused, rescueAnswer, rescued};
 ghost use Rattle.edit.specs.Inner.{listedOnly};
 
-// What rescuing answers: a refusal and its place, or 0, 0 and how many records of the chain were kept.
+// What rescuing answers: a refusal and its place, and 0 kept; or 0, 0 and how many records of the chain were kept.
 pub struct Rescued {
     pub refused: u8,
     pub place: u16,
@@ -59,7 +59,7 @@ fn zero_others(file: &mut [u8], l: Indices)
     }
 }
 
-// Ends the chain before its first refusal and where what it reserves fits, and zeroes the records off it.
+// Ends the chain at the first link that is refused, and earlier where the reservations do not fit; zeroes the records off it.
 pub fn rescue(file: &mut [u8]) -> Rescued
     ensures { λ r. ⌜ r ≡ rescueAnswer (now (file .entry)) ⌝ }
     ensures { λ _. ⌜ now (file .exit) ≡ rescued (now (file .entry)) ⌝ }

@@ -27,7 +27,7 @@ saves s n t = record { file = s; outcome = record { told = record { refused = 0;
 abbrev draws : List ℕ → ℕ → Case
 draws s n = record { file = s; outcome = record { told = record { refused = n; place = 0; kept = 0 }; file = s } }
 
--- domain 3 with other reservations, and a domain that reserves nothing
+-- domain 3 with Q 2, and a domain that reserves nothing
 abbrev heavy : ℕ → List ℕ
 heavy next = record16 next 3 0 2 0 0 0
 
@@ -37,12 +37,14 @@ light next = record16 next 5 0 0 1 0 0
 -- each fault: the link that names the record is 0 then, and not the link of that record; what stands behind it falls too
 abbrev links : List Case
 links =
-    -- 4, behind the last record, in record 0, and by a link of two bytes
+    -- 4, behind the last record, in record 0, and by links to 64 and 65,535
     saves (head 4 1 ++ (one 2 ++ two 3)) 2 planA
     ∷ saves (head 4 3 ++ (one 2 ++ two 0)) 0 (head 4 0 ++ (zero16 ++ zero16))
+    ∷ saves (head 4 1 ++ (one 2 ++ two 64)) 2 planA
     ∷ saves (head 4 1 ++ (one 2 ++ (255 ∷ 255 ∷ drop 2 (two 0)))) 2 planA
-    -- 5: the record that is met twice stays
+    -- 5: the record that is met twice stays, and all that the records kept state
     ∷ saves (head 4 1 ++ (one 2 ++ two 1)) 2 planA
+    ∷ saves (head 4 2 ++ (four 2 ++ two 1)) 2 (head 4 2 ++ (four 0 ++ two 1))
     ∷ saves (head 4 2 ++ (one 0 ++ two 2)) 1 (head 4 2 ++ (zero16 ++ two 0))
     -- 6, with a good record behind it; 7, 8, 9 and 11
     ∷ saves (head 4 1 ++ (one 2 ++ (record16 3 0 0 1 0 0 0 ++ three 0))) 1 (head 4 1 ++ (one 0 ++ (zero16 ++ zero16)))
@@ -52,14 +54,15 @@ links =
     ∷ saves (head 4 1 ++ (record16 2 4 0 0 0 1 2 ++ two 0)) 0 (head 4 0 ++ (zero16 ++ zero16))
     ∷ []
 
--- the sum of both reservations: above P by one, with a last record that reserves nothing, by one record alone, and at P
+-- the sum of both reservations above P: by one, with a last record that reserves nothing, by the writeback reservation, and of
+-- one record alone
 abbrev sums : List Case
 sums =
     saves (head 4 1 ++ (one 2 ++ (two 3 ++ heavy 0))) 2 (planA ++ zero16)
     ∷ saves (head 4 1 ++ (one 2 ++ (two 3 ++ (heavy 4 ++ light 0)))) 2 (planA ++ (zero16 ++ zero16))
     ∷ saves (head 4 1 ++ (one 2 ++ (two 3 ++ (three 4 ++ four 0)))) 3 (head 4 1 ++ (one 2 ++ (two 3 ++ (three 0 ++ zero16))))
     ∷ saves (head 4 1 ++ record16 0 4 0 4 0 1 1) 0 (head 4 0 ++ zero16)
-    -- the link first: what stands behind it is not summed
+    -- the link first, and then the sum of what is left: a bad record is not summed, and a fault does not hide the sum
     ∷ saves (head 4 1 ++ (one 2 ++ (two 3 ++ record16 0 17 0 2 0 0 0))) 2 (planA ++ zero16)
     ∷ saves (head 4 1 ++ (one 2 ++ (two 3 ++ (heavy 4 ++ light 1)))) 2 (planA ++ (zero16 ++ zero16))
     -- all three steps: 7 in the record behind `light 5`, then the sum, and a leftover

@@ -31,9 +31,9 @@ use Rattle.plan.proofs.Laws.Leftovers.{Tidy, tidy}
 use Rattle.plan.proofs.Laws.Intact.{Intact, intact-chain, intact-read}
 use Rattle.edit.specs.Laying.{laid, blank, withLink}
 use Rattle.edit.specs.declared.rescuing.Rescued.{Rescued}
-use Rattle.edit.specs.Rescue.{remaining, keptCount, keptRecords, rescuedRecord, staysRefused, rescueAnswer, rescued, RescuesFile, AcceptedKeeps, RefusedRescueKeeps}
+use Rattle.edit.specs.Rescue.{remaining, keptCount, keptRecords, rescuedRecord, staysRefused, rescueAnswer, rescued, oneMore, RescuesFile, AcceptedRescueKeeps, RefusedRescueKeeps}
 use Rattle.edit.proofs.Laws.Records.{record-long, zeros-are}
-use Rattle.edit.proofs.Laws.Laying.{laid-same, with-long, with-none}
+use Rattle.edit.proofs.Laws.Laying.{laid-same, with-same, with-long, with-none}
 use Rattle.edit.proofs.Laws.Rereading.{Keeping, laid-to, kept-length, kept-count, kept-period, kept-head, kept-domains, kept-orderly, kept-link, new-link}
 
 module _ (s : List ℕ) where
@@ -181,14 +181,21 @@ module _ (s : List ℕ) where
     rescue-chain : chainOf t ≡ keptRecords s
     rescue-chain = intact-chain intact
 
+    rescue-domains : domainsIn t ≡ take (keptCount s) (domainsIn s)
+    rescue-domains = ap (domainsAt t) rescue-chain ∙ domains
+
+    rescue-same : (k : ℕ) → has k (0 ∷ keptRecords s) ≡ true → (k ≡ last → ⊥) → recordAt t k ≡ recordAt s k
+    rescue-same k on n =
+        laid-to keeping k (orderly-inside s (keptRecords s) front-orderly (head-whole s head .long) k on) ∙ on-chain k on ∙ with-same s last 0 k n
+
     rescue-length : length t ≡ length s
     rescue-length = kept-length keeping
 
     -- behind the records kept the walk goes on only to one that brings the sum above the period
-    rescue-next : goesOn s (keptRecords s) ≡ true → periodIn s < reservedOf (domainsAt s (keptRecords s ++ (link s (keptRecords s) ∷ [])))
+    rescue-next : goesOn s (keptRecords s) ≡ true → periodIn s < reservedOf (domainsAt s (oneMore s))
     rescue-next on = go (ℕ-discrete (keptCount s) all)
       where
-        go : Dec (keptCount s ≡ all) → periodIn s < reservedOf (domainsAt s (keptRecords s ++ (link s (keptRecords s) ∷ [])))
+        go : Dec (keptCount s ≡ all) → periodIn s < reservedOf (domainsAt s (oneMore s))
         go (yes e) =
             let same : keptRecords s ≡ chainOf s = take-all (keptCount s) (chainOf s) (omega arith) in
             absurd (false≢true (sym (walk-ends s (head-whole s head .short)) ∙ ap (goesOn s) (sym same) ∙ on))
@@ -197,14 +204,14 @@ module _ (s : List ℕ) where
             let named : link s (keptRecords s) ≡ nth (chainOf s) (keptCount s) =
             ap (linkOf s) (last-take (chainOf s) 0 (keptCount s) kept-within)
             ∙ lead-at s 0 (chainOf s) (link s (chainOf s)) (keptCount s) (chain-leads s) less in
-            let more : keptRecords s ++ (link s (keptRecords s) ∷ []) ≡ take (suc (keptCount s)) (chainOf s) =
+            let more : oneMore s ≡ take (suc (keptCount s)) (chainOf s) =
             ap (λ (i : ℕ). keptRecords s ++ (i ∷ [])) named ∙ sym (take-suc (chainOf s) (keptCount s) 0 less) in
-            let sums : reservedOf (domainsAt s (keptRecords s ++ (link s (keptRecords s) ∷ []))) ≡ sumTo (suc (keptCount s)) =
+            let sums : reservedOf (domainsAt s (oneMore s)) ≡ sumTo (suc (keptCount s)) =
             ap (λ (xs : List ℕ). reservedOf (domainsAt s xs)) more ∙ ap reservedOf (map-take (domainAt s) (suc (keptCount s)) (chainOf s)) in
             over sums (ltb (periodIn s) (sumTo (suc (keptCount s)))) refl
           where
-            over : reservedOf (domainsAt s (keptRecords s ++ (link s (keptRecords s) ∷ []))) ≡ sumTo (suc (keptCount s)) → (b : Bool)
-                → ltb (periodIn s) (sumTo (suc (keptCount s))) ≡ b → periodIn s < reservedOf (domainsAt s (keptRecords s ++ (link s (keptRecords s) ∷ [])))
+            over : reservedOf (domainsAt s (oneMore s)) ≡ sumTo (suc (keptCount s)) → (b : Bool)
+                → ltb (periodIn s) (sumTo (suc (keptCount s))) ≡ b → periodIn s < reservedOf (domainsAt s (oneMore s))
             over q true e = omega (arith, q, ltb-true (periodIn s) (sumTo (suc (keptCount s))) e)
             over q false e =
                 absurd (omega (arith, kept-within, is-left all .most (suc (keptCount s)) (omega (arith, kept-within)) (ltb-false (periodIn s) (sumTo (suc (keptCount s))) e)))
@@ -269,13 +276,17 @@ pub rescues-file : RescuesFile
 rescues-file s e =
     let head = taken-head s (taken s e) in
     let is = rescued-laid s e in
+    let chain = ap chainOf is ∙ rescue-chain s head in
     record {
       read = ap readPlan is ∙ rescue-read s head;
-      chain = ap chainOf is ∙ rescue-chain s head;
-      whole = whole-chain s;
-      most = is-left s (all s) .most;
-      next = rescue-next s head;
+      chain = chain;
+      domains = ap domainsIn is ∙ rescue-domains s head;
+      told = ap (λ (r : Rescued). r .kept) (answer-taken s (taken s e)) ∙ sym (ap length chain ∙ length-take-le (keptCount s) (chainOf s) (kept-within s));
+      same = λ k on n. ap (λ (t : List ℕ). recordAt t k) is ∙ rescue-same s head k on n;
       long = ap length is ∙ rescue-length s head;
+      most = is-left s (all s) .most;
+      whole = whole-chain s;
+      next = rescue-next s head;
     }
 
 pub refused-rescue-keeps : RefusedRescueKeeps
@@ -306,13 +317,9 @@ module _ (s : List ℕ) (ok : readPlan s .refused ≡ 0) where
       go true e = on-chain s k e ∙ with-none s (lastOf 0 (keptRecords s)) 0 k h refl end
       go false e =
           let m = has-not k 0 (keptRecords s) e in
-          let low : 1 ≤ k = positive k (m .0) in
-          let zero = c .unused k low h (ap (has k) (sym same-chain) ∙ m .1) in
+          let some = m .0 in
+          let zero = c .unused k (omega arith) h (ap (has k) (sym same-chain) ∙ m .1) in
           off-chain s k e ∙ sym (zeros-are (recordAt s k) zero ∙ ap (λ (n : ℕ). replicate n 0) (record-long s k h))
-        where
-          positive : (x : ℕ) → (x ≡ 0 → ⊥) → 1 ≤ x
-          positive zero f = absurd (f refl)
-          positive (suc x) f = omega arith
 
   bytes-kept : rescued s ≡ s
   unfolding rescued
@@ -322,5 +329,5 @@ module _ (s : List ℕ) (ok : readPlan s .refused ≡ 0) where
       go true = laid-same s (g .whole) (rescuedRecord s) same
       go false = refl
 
-pub accepted-keeps : AcceptedKeeps
-accepted-keeps s ok = record { bytes = bytes-kept s ok; all = all-kept s (good s (tidy s ok .earlier) .sum) }
+pub accepted-rescue-keeps : AcceptedRescueKeeps
+accepted-rescue-keeps s ok = record { bytes = bytes-kept s ok; all = all-kept s (g s ok .sum) }

@@ -55,11 +55,8 @@ without-all p [] n one low new = refl
 without-all p (d ∷ ds) n one low new =
     let l = has-not 0 (d .number) (numbers ds) low in
     let m = has-not n (d .number) (numbers ds) new in
-    without-all (withDomain p d) ds n one (l .1) (m .1) ∙ ap (λ (q : Plan). withAll q ds) (without-other p d n (m .0) (positive (d .number) (l .0)) one)
-  where
-    positive : (x : ℕ) → (0 ≡ x → ⊥) → 1 ≤ x
-    positive zero f = absurd (f refl)
-    positive (suc x) f = omega arith
+    let some = l .0 in
+    without-all (withDomain p d) ds n one (l .1) (m .1) ∙ ap (λ (q : Plan). withAll q ds) (without-other p d n (m .0) (omega arith) one)
 
 set-repeat : {A : Type 0} (m k : ℕ) (a : A) → set (replicate m a) k a ≡ replicate m a
 set-repeat zero k a = refl
