@@ -216,20 +216,21 @@ fn overfull(file: &mut [u8], case: u32, seed: u32) -> Chain {
     c
 }
 
-// More than P is reserved, and there is a fault at each place.
+// One of the chains with a fault, whose plan mostly reserves more than P.
+fn any_faulty(file: &mut [u8], seed: u32) -> Chain {
+    let p = plan_of(1 + draw::upto(seed, 28, 2), seed);
+    faulty(file, p, draw::upto(seed, 30, 11423), seed)
+}
+
+// More than P is reserved, by far or by one, and there is a fault at any place.
 fn both_wrong(file: &mut [u8], case: u32, seed: u32) -> Chain {
     if case % 2 == 0 {
-        return faulty(
-            file,
-            plan_of(1 + draw::upto(seed, 28, 2), seed),
-            case / 2,
-            seed,
-        );
+        return any_faulty(file, seed);
     }
     let c = summed(file, 64 + case / 2 % 64, seed);
     let fault = fault_of(case / 128);
     let domains = domains_of(less(c.domains, 1));
-    let taken = place_of(fault, domains, case / 896);
+    let taken = place_of(fault, domains, draw::upto(seed, 32, 16));
     spoiled::put_spot(file, c, Spot { fault, taken }, seed);
     c
 }
@@ -277,7 +278,7 @@ fn of_length(file: &mut [u8], case: u32, seed: u32) -> u32 {
 // A chain with a fault in a file that is refused with 1, 2 or 3; now and then with a later number of these beside.
 fn unopened(file: &mut [u8], case: u32, seed: u32) -> u32 {
     let number = 1 + case % 3;
-    let c = faulty(file, plan_of(1, seed), draw::upto(seed, 30, 11423), seed);
+    let c = any_faulty(file, seed);
     spoiled::spoil(
         file,
         c,
