@@ -2,3 +2,4 @@
 // order, and which slot it is that is asked for.
 //
 // Definitions (specs/) and a theorem (proofs/Laws/) that is computed. There is no code.
+#![tactic(auto)]

@@ -2,3 +2,4 @@
 // sentences more; and a run that meets the premise of the share rule.
 //
 // Definitions (specs/) and theorems (proofs/Laws/) that are computed. There is no code.
+#![tactic(auto)]

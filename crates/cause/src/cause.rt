@@ -4,7 +4,7 @@ ghost use Rattle.cause.specs.Cause.{word, word_for, cause_from, told_by};
 
 // Nothing (0); the word claim, stock or neither (1); the number granted (2); the cap (3 and 4); what all domains yielded and reclaimed
 // (5); loose and the lowest domain waiting on claim (6).
-#[derive(Drop)]
+#[derive(Clone, Copy)]
 pub enum Told {
     Nothing,
     Claim,

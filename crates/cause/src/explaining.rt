@@ -13,7 +13,7 @@ use plan::Plan;
 use regulator::State;
 
 // What the call answers: 0 or the number of a refusal, the verdict, and what is told of it.
-#[derive(Drop)]
+#[derive(Clone, Copy)]
 pub struct Explained {
     pub refused: u8,
     pub verdict: u8,

@@ -14,7 +14,7 @@ use crate::{chain, records};
 use plan::{Domain, Plan, Refusal};
 
 // The domain to add, in numbers so wide that nothing is cut.
-#[derive(Drop)]
+#[derive(Clone, Copy)]
 pub struct NewDomain {
     pub number: u64,
     pub reservation: u64,

@@ -7,7 +7,7 @@ ghost use Rattle.plan.specs.Reading.{head_table};
 ghost use Rattle.edit.specs.Inner.{Lists};
 
 // Record 0 and records of a chain, in chain order: the first `count + 1` of the seventeen.
-#[derive(Drop)]
+#[derive(Clone, Copy)]
 pub struct Indices {
     pub count: usize,
     pub records: [usize; 17],

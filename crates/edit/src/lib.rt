@@ -10,6 +10,7 @@
 // above the period, and zeroes the records off it, for any bytes; or a refusal 1 to 3. Its output is accepted.
 //
 // A refused edit keeps every byte.
+#![tactic(auto)]
 mod adding;
 mod chain;
 mod compacting;

@@ -11,7 +11,7 @@ use crate::chain::Indices;
 use crate::{chain, records};
 
 // What rescuing answers: a refusal and its place, and 0 kept; or 0, 0 and how many records of the chain were kept.
-#[derive(Drop)]
+#[derive(Clone, Copy)]
 pub struct Rescued {
     pub refused: u8,
     pub place: u16,

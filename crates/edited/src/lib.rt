@@ -3,3 +3,4 @@
 // refusal leaves.
 //
 // Definitions (specs/) and theorems (proofs/Laws/) that are computed. There is no code.
+#![tactic(auto)]

@@ -10,7 +10,7 @@ use super::{masks, turn};
 use regulator::{Answer, State};
 
 // What masks tell of a slot: whether it is blocked, the number that is granted, or 17, and its steps.
-#[derive(Drop)]
+#[derive(Clone, Copy)]
 struct Asked {
     blocked: bool,
     number: usize,

@@ -5,7 +5,7 @@ ghost use Rattle.bits.specs.Bits.{bit};
 ghost use Rattle.engine.specs.Inner.{Marks, Marked, wait_at, free_at, pass_at};
 
 // Masks of a state: the numbers that have claim, that have writeback claim, that may reclaim, and that have room for a writeback.
-#[derive(Drop)]
+#[derive(Clone, Copy)]
 pub struct Masks {
     pub has: u32,
     pub back: u32,

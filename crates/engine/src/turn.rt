@@ -3,7 +3,7 @@ ghost use Rattle.std.specs.Prelude.{◌≡◌, cond, ◌<◌, ◌≤◌, eqb};
 ghost use Rattle.engine.specs.Inner.{picked_of};
 
 // The number that is granted, or 17, and how many were asked and passed by before it.
-#[derive(Drop)]
+#[derive(Clone, Copy)]
 pub struct Picked {
     pub number: u32,
     pub steps: u32,

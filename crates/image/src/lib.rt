@@ -1,2 +1,3 @@
 // x
+#![tactic(auto)]
 mod a;

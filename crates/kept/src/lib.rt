@@ -6,6 +6,7 @@
 // stored(state, numbers, tables): the state again, with all that no slot changes taken from the state given.
 //
 // slot refuses nothing: it requires what a state that adds up gives (Ready), and offers of which each number makes one at most.
+#![tactic(auto)]
 mod deciding;
 mod grant;
 mod numbers;

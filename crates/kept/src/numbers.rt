@@ -8,7 +8,7 @@ use regulator::State;
 // What a slot changes of a state beside its tables, and what is kept of the tables: spoken is the slots decided and both claims
 // summed; of the masks, bit n for number n, has is of those with claim, back of those with writeback claim, may of those whose
 // reclaimed are not at their cap, room of those whose writebacks are not.
-#[derive(Drop)]
+#[derive(Clone, Copy)]
 pub struct Numbers {
     pub decided: u16,
     pub closed: u32,

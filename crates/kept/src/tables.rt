@@ -4,7 +4,7 @@ ghost use Rattle.table.specs.Sums.{nth, raised, lowered};
 ghost use Rattle.kept.specs.Tables.{tables, Few, Shifted};
 
 // What a grant to a domain takes, 1 or 0 of each: of its claim, of the stock, of its writeback claim; and 1 if it is a writeback.
-#[derive(Drop)]
+#[derive(Clone, Copy)]
 pub(crate) struct Taken {
     pub claim: u16,
     pub stock: u16,
@@ -13,7 +13,7 @@ pub(crate) struct Taken {
 }
 
 // The numbers of one domain of which masks are kept.
-#[derive(Drop)]
+#[derive(Clone, Copy)]
 pub(crate) struct Row {
     pub claim: u16,
     pub reclaimed: u16,

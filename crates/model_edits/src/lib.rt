@@ -1,5 +1,6 @@
 // A second implementation of the edits of a plan file, made plain and slow to compare the library with: what an edit leaves is
 // told byte by byte from a copy of the file as it was.
+#![tactic(auto)]
 pub mod adding;
 mod after;
 pub mod chain;

@@ -1,6 +1,7 @@
 // A second implementation of plans, made plain and slow to compare the library with. A plan is a period and flat words: those
 // of domain n (1 to 16) stand at 6 * (n - 1): present (0 or 1), reservation Q, reclaim cap R, writeback cap W, the writeback
 // reservation, here called V, and its mark (0 or 1).
+#![tactic(auto)]
 mod along;
 mod chain;
 mod layout;

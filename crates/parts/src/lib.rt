@@ -2,6 +2,7 @@
 //
 // read_file(name, buffer): how many bytes of a file went to the lent buffer.
 // refill(text, used, filled): keeps what is left of the part in hand, and reads more of standard input behind it.
+#![tactic(auto)]
 mod file;
 mod input;
 

@@ -11,14 +11,14 @@ use crate::{records, value};
 
 // The sums that the walk tells: how many records it took, and after each of them the sum of what the domains met so far
 // reserve. Zeros stand behind the last.
-#[derive(Drop)]
+#[derive(Clone, Copy)]
 pub struct Sums {
     pub records: usize,
     pub told: [u32; 16],
 }
 
 // What the walk has gathered from the records taken: the plan of their domains, the last sum told, and all sums told.
-#[derive(Drop)]
+#[derive(Clone, Copy)]
 pub struct Gathered {
     pub plan: Plan,
     pub sum: u32,
@@ -27,7 +27,7 @@ pub struct Gathered {
 
 // What following the chain came to: the refusal that ended it and the index it was met at, or 0 and 0 at the chain's
 // end; what was gathered before; and which records were taken.
-#[derive(Drop)]
+#[derive(Clone, Copy)]
 pub struct Walked {
     pub refused: u8,
     pub place: u16,

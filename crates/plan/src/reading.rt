@@ -9,7 +9,7 @@ use crate::value::Plan;
 use crate::{chain, leftovers, records, value};
 
 // What reading answers: the refusal and its place, or 0, 0 and the plan. A refusal's plan is all zeros.
-#[derive(Drop)]
+#[derive(Clone, Copy)]
 pub struct Reading {
     pub refused: u8,
     pub place: u16,

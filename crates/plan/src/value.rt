@@ -5,7 +5,7 @@ ghost use Rattle.plan.specs.Value.{outside, above, holds_absent, above_cap, out_
 
 // A plan: the period, and of each domain number n at index n - 1 whether it is planned, its reservation Q, reclaim cap R,
 // writeback cap W and writeback reservation, and whether it is marked to yield by forecast.
-#[derive(Drop)]
+#[derive(Clone, Copy)]
 pub struct Plan {
     pub period: u16,
     pub planned: [bool; 16],
@@ -17,7 +17,7 @@ pub struct Plan {
 }
 
 // A domain by itself, as a record of a plan file states it.
-#[derive(Drop)]
+#[derive(Clone, Copy)]
 pub struct Domain {
     pub number: u8,
     pub reservation: u16,
@@ -28,7 +28,7 @@ pub struct Domain {
 }
 
 // The number of a refusal and its place, both 0 where nothing is refused.
-#[derive(Drop)]
+#[derive(Clone, Copy)]
 pub struct Refusal {
     pub refused: u8,
     pub place: u16,

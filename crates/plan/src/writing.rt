@@ -6,7 +6,7 @@ use crate::value::{Domain, Plan};
 use crate::{records, value};
 
 // What writing answers: the refusal and its place and no bytes, or 0, 0 and the count of bytes written.
-#[derive(Drop)]
+#[derive(Clone, Copy)]
 pub struct Writing {
     pub refused: u8,
     pub place: u16,
@@ -14,7 +14,7 @@ pub struct Writing {
 }
 
 // The domains of a plan, one after the other: the first `count` of the sixteen.
-#[derive(Drop)]
+#[derive(Clone, Copy)]
 pub struct Listed {
     pub count: usize,
     pub domains: [Domain; 16],

@@ -4,7 +4,7 @@ ghost use Rattle.question.specs.Ask.{question_of};
 ghost use Rattle.question.specs.Inner.{asked_by};
 
 // What the file asks: a slot and a number; or it is malformed.
-#[derive(Drop)]
+#[derive(Clone, Copy)]
 pub(crate) enum Asked {
     Slot { slot: u64, number: u64 },
     Malformed,

@@ -13,7 +13,7 @@ use regulator::State;
 use script::Line;
 
 // How far a search is: it goes on; it found its slot; or it ended with a refusal, of the question or of the plan.
-#[derive(Drop)]
+#[derive(Clone, Copy)]
 pub enum Stage {
     Seeking,
     Found,
@@ -24,7 +24,7 @@ pub enum Stage {
 // A search between two lines: its stage; the state, which is the one before the slot where that is found; the offers of the slot that
 // is found; how many slots are to be decided, the one asked for among them; the number asked for; and the bytes of the part of the
 // script in hand that are done.
-#[derive(Drop)]
+#[derive(Clone, Copy)]
 pub struct Search {
     pub stage: Stage,
     pub state: State,

@@ -12,7 +12,7 @@ use super::{close, forecast, grant, refusals, state, turn, verdict};
 use plan::Plan;
 
 // What opening answers: 0 or the number of a refusal, its place, and the state.
-#[derive(Drop)]
+#[derive(Clone, Copy)]
 pub struct Opening {
     pub refused: u8,
     pub place: u16,
@@ -20,14 +20,14 @@ pub struct Opening {
 }
 
 // What a yield answers: 0 or the number of a refusal, and the state.
-#[derive(Drop)]
+#[derive(Clone, Copy)]
 pub struct Yielding {
     pub refused: u8,
     pub state: State,
 }
 
 // What handing in a plan answers: 0 or the number of a refusal, its place, and the state.
-#[derive(Drop)]
+#[derive(Clone, Copy)]
 pub struct Handing {
     pub refused: u8,
     pub place: u16,

@@ -9,7 +9,7 @@ use super::{forecast, state};
 use plan::Plan;
 
 // The counts of a period.
-#[derive(Drop)]
+#[derive(Clone, Copy)]
 pub struct Counts {
     pub idle: u16,
     pub best: u16,
@@ -23,7 +23,7 @@ pub struct Counts {
 // What a slot call answers: 0 or the number of a refusal, the state, and, where the slot completed a period, its counts;
 // else they are zeros. Then the steps: how many numbers were asked and passed by before the granted one, 17 in an idle
 // slot, 0 where the call is refused.
-#[derive(Drop)]
+#[derive(Clone, Copy)]
 pub struct Answer {
     pub refused: u8,
     pub state: State,

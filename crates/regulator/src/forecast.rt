@@ -10,14 +10,14 @@ ghost use Rattle.regulator.specs.declared.forecast.Estimate.TheVariants.{Unknown
 use super::numbers;
 
 // The estimate of a domain: none, or a float.
-#[derive(Drop)]
+#[derive(Clone, Copy)]
 pub enum Estimate {
     Unknown,
     Known(f64),
 }
 
 // What is kept of a domain from period to period.
-#[derive(Drop)]
+#[derive(Clone, Copy)]
 pub struct Tracked {
     pub estimate: Estimate,
 }

@@ -10,7 +10,7 @@ use super::{forecast, numbers};
 use plan::Plan;
 
 // The plan that waits for the end of the open period, or none: where `given` is false the plan beside it is not looked at.
-#[derive(Drop)]
+#[derive(Clone, Copy)]
 pub struct Waiting {
     pub given: bool,
     pub plan: Plan,
@@ -19,7 +19,7 @@ pub struct Waiting {
 // The state of a period. Index n - 1 of the arrays is domain number n; decided is the number of slots decided, closed of
 // periods closed, best of best-effort passes, and steps of the numbers asked and passed by in the period; plan is the one in
 // force, claim is of accesses, and writebackclaim of writebacks; tracked holds the estimates.
-#[derive(Drop)]
+#[derive(Clone, Copy)]
 pub struct State {
     pub plan: Plan,
     pub decided: u16,

@@ -12,7 +12,7 @@ pub(crate) fn next_number(n: usize) -> usize
 }
 
 // The number that is granted, or 17, and how many were asked and passed by before it.
-#[derive(Drop)]
+#[derive(Clone, Copy)]
 pub(crate) struct Picked {
     pub number: usize,
     pub steps: u32,

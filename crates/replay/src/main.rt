@@ -1,4 +1,5 @@
 // The replay: reads the file `plan` and a script on standard input, and prints the periods.
+#![tactic(auto)]
 ghost use Rattle.std.specs.Prelude.{◌≡◌, length};
 ghost use Rattle.parts.specs.Input.{Kept};
 ghost use Rattle.replay.specs.Buffers.{Within};

@@ -10,7 +10,7 @@ use super::text;
 use regulator::State;
 
 // What a line did: 0 or the number that refused it, the state after it, and the bytes of text in the lent buffer.
-#[derive(Drop)]
+#[derive(Clone, Copy)]
 pub(crate) struct Step {
     pub refused: u8,
     pub state: State,

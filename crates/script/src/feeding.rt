@@ -16,7 +16,7 @@ const SLOT_LINE: usize = 20;
 
 // A replay between two lines: the state, the number of the next line, 0 or the number that refused the plan or a line, the bytes of the
 // part of the script in hand that are done, and the bytes of text in the lent buffer.
-#[derive(Drop)]
+#[derive(Clone, Copy)]
 pub struct Run {
     pub state: State,
     pub line: u64,

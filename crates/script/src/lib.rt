@@ -7,6 +7,7 @@
 // of the run that they answer, so that no line checks again that the state adds up.
 //
 // line_end, is_open_end, read_numbers and what puts text into a lent buffer are for another program over scripts.
+#![tactic(auto)]
 mod carrying;
 mod feeding;
 mod line;

@@ -5,7 +5,7 @@ ghost use Rattle.script.specs.Inner.{Space, numbers_in};
 
 // What a line is: a slot line, whose offers went to the lent buffer; a yield line, with its domain and count; or neither, with the
 // number that refuses it.
-#[derive(Drop)]
+#[derive(Clone, Copy)]
 pub enum Line {
     Slot,
     Yield { domain: u64, count: u64 },
@@ -76,7 +76,7 @@ fn first_space(rest: &[u8]) -> usize
 }
 
 // Two numbers, where bytes write them.
-#[derive(Drop)]
+#[derive(Clone, Copy)]
 pub struct Numbers {
     pub written: bool,
     pub first: u64,

@@ -16,14 +16,14 @@ use regulator::State;
 const LINE: usize = 20;
 
 // The state after the lines, and the place behind them.
-#[derive(Drop)]
+#[derive(Clone, Copy)]
 pub struct Carried {
     pub state: State,
     pub at: usize,
 }
 
 // The numbers after the lines, and the place behind them.
-#[derive(Drop)]
+#[derive(Clone, Copy)]
 struct Ran {
     numbers: Numbers,
     at: usize,

@@ -1,6 +1,7 @@
 // Compares the library's opening, slots, yields and handing in with the model's on stated cases and on lists of calls that are
 // fixed by seeds, holds each list against the ledger and the bound of its rows, and prints what was compared. Every slot is put
 // to both engines, and the cause of one of its verdicts is asked for.
+#![tactic(auto)]
 use run::{Case, Run};
 use seen::Seen;
 use trial_kit::{draw, tally};

@@ -1,5 +1,6 @@
 // Compares the library's edits of plan files with the model's on stated cases and on files and calls that are fixed by seeds,
 // and prints what was compared.
+#![tactic(auto)]
 use trial_files::{calls, files};
 use trial_kit::bytes::least;
 use trial_kit::tally::Tally;

@@ -1,5 +1,6 @@
 // Compares the library's plans with the model's on stated cases and on files and values that are fixed by seeds, and prints
 // what was compared.
+#![tactic(auto)]
 use leftovers::Made;
 use seen::Outcome;
 use trial_kit::bytes::least;

@@ -1,5 +1,6 @@
 // Compares the texts of whole replays and of answers to questions, the library's with the model's, on stated cases and on plan
 // files, scripts and files `ask` that are fixed by seeds, and prints what was compared.
+#![tactic(auto)]
 use asking::Reply;
 use compare::Outcome;
 use model_calls::Cause;

@@ -2,3 +2,4 @@
 // a number is put off that long.
 //
 // Definitions (specs/) and theorems (proofs/Laws/) over those that the calls of regulator promise to answer by. There is no code.
+#![tactic(auto)]

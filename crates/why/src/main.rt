@@ -1,4 +1,5 @@
 // Why an offer passed or did not: reads the files `plan` and `ask` and a script on standard input, and prints a verdict and its cause.
+#![tactic(auto)]
 ghost use Rattle.std.specs.Prelude.{length};
 ghost use Rattle.parts.specs.Input.{Kept};
 ghost use Rattle.question.specs.Seeking.{Sound};
