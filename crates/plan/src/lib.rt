@@ -10,6 +10,7 @@
 // u16_at, record_part, put_record, domain_record and next_index are what a caller needs that writes records of a file itself:
 // they require that a record is there. all_reserved is the sum of both reservations.
 #![tactic(auto)]
+
 mod chain;
 mod leftovers;
 mod reading;

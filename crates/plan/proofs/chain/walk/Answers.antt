@@ -1,0 +1,56 @@
+use mathlib.Core.Path.{ap, ◌∙◌}
+use Prim.Native.Nat.{◌<◌, ◌≤◌}
+use native.Mathlib.Omega.{arith}
+use Rattle.plan.specs.Records.{domain_in, next_in}
+use Rattle.plan.specs.declared.value.Domain.{Domain}
+use Rattle.plan.proofs.Laws.Links.{Taken}
+use Rattle.plan.proofs.Laws.Walking.{starts, ended, refused, took, fewer, sum_fits, onward}
+use Rattle.plan.proofs.chain.walk.Goals as goal
+
+pub loop-i-init : goal.loop-i-init
+loop-i-init c =
+    rw (c.nothing_gathered-gathered.ensures, c.u16_at-period.ensures) (starts _ _ c.u16_at-i.ensures (omega (arith, c.u16_at-i.type_inv)))
+
+pub overflow_cast-at : goal.overflow_cast-at
+overflow_cast-at c = omega (arith, c.loop-i.invariant.index)
+
+pub returns-then-refused-ne0 : goal.returns-then-refused-ne0
+returns-then-refused-ne0 c =
+    refused c.loop-i.invariant _ _ c.loop-i-test.true c.u16_at-period.ensures c.following-refused.ensures c.if-refused-ne0.true
+
+pub record_part-b-requires : goal.record_part-b-requires
+record_part-b-requires c =
+    let taking : Taken c.args.file.now c.loop-i.invariant.chain c.loop-i.i = took c.loop-i.invariant _ _ c.loop-i-test.true c.u16_at-period.ensures c.following-refused.ensures c.if-refused-ne0.false in
+    omega (arith, (taking).inside)
+
+pub gather-gathered-requires : goal.gather-gathered-requires
+gather-gathered-requires c =
+    let taking : Taken c.args.file.now c.loop-i.invariant.chain c.loop-i.i = took c.loop-i.invariant _ _ c.loop-i-test.true c.u16_at-period.ensures c.following-refused.ensures c.if-refused-ne0.false in
+    let spare : (let g = c.loop-i.gathered in (g.sums.records < 16) × (g.sum ≤ 1966050)) = sum_fits c.loop-i.invariant _ _ c.loop-i-test.true c.u16_at-period.ensures c.following-refused.ensures c.if-refused-ne0.false in
+    let t = taking in
+    let e = ap (λ (d : Domain). d.number) (c.domain_in-d.ensures ∙ ap domain_in c.record_part-b.ensures.0) in
+    record { le_number = (omega (arith, t.fine.low), omega (arith, t.fine.high)); records_bound = spare }
+
+pub bounds-seen-at : goal.bounds-seen-at
+bounds-seen-at c =
+    let taking : Taken c.args.file.now c.loop-i.invariant.chain c.loop-i.i = took c.loop-i.invariant _ _ c.loop-i-test.true c.u16_at-period.ensures c.following-refused.ensures c.if-refused-ne0.false in
+    omega (arith, (taking).inside, c.requires.1)
+
+pub loop-i-smaller : goal.loop-i-smaller
+loop-i-smaller c =
+    omega (
+      arith,
+      fewer c.loop-i.invariant _ _ c.loop-i-test.true c.u16_at-period.ensures c.following-refused.ensures c.if-refused-ne0.false
+          c.requires.1,
+    )
+
+pub loop-i-preserved : goal.loop-i-preserved
+loop-i-preserved c =
+    let part = c.record_part-b.ensures.0 in
+    rw c.gather-gathered.ensures
+    (onward c.loop-i.invariant _ _ c.loop-i-test.true c.u16_at-period.ensures c.following-refused.ensures c.if-refused-ne0.false
+    c.requires.1 _ _ (c.domain_in-d.ensures ∙ ap domain_in part) (omega (arith, c.domain_in-d.type_inv)) (c.u16_at-i-in-loop-i.ensures ∙ ap next_in part)
+    (omega (arith, c.u16_at-i-in-loop-i.type_inv)))
+
+pub returns : goal.returns
+returns c = ended c.loop-i.invariant c.loop-i-test.false
