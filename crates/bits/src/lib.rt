@@ -6,6 +6,7 @@
 // Each contract speaks of every bit, so that what a mask says of a number is computed as tests are. The laws (proofs/) are what the
 // crates above cite.
 #![tactic(auto)]
+
 ghost use Rattle.std.specs.Prelude.{◌≡◌, not, ◌&&◌, ◌||◌, ℕ, ◌<◌, eqb};
 ghost use Rattle.bits.specs.Bits.{bit};
 

@@ -12,6 +12,7 @@
 // adds_up, check_slot, without_counts, rule, mark and grant_slot are the parts of a slot call that a second engine shares: all but
 // who passes and who is granted. loose, lowest_waiting, claim_of and is_no_domain are what a caller needs that tells why.
 #![tactic(auto)]
+
 mod calls;
 mod close;
 mod forecast;

@@ -1,5 +1,5 @@
 -- `table::sums::total` meets its contract.
-use Rattle.std.proofs.Common.{rules, ap, arith, ◌≤◌, ◌<◌, length, drop}
+use Rattle.std.proofs.Common.{rules, ap, arith, ◌≤◌, ◌<◌, length}
 use lib.ListN.{drop_of_length-le}
 use Rattle.table.specs.Sums.{sum}
 use Rattle.table.proofs.Elements.{sum_from, sum_none}

@@ -1,0 +1,18 @@
+-- `regulator::refusals::check_hand_in` meets its contract: 34, and then the plan's own lines.
+-- Assumes nothing.
+use mathlib.Core.Path.{◌≡◌, sym, ◌∙◌}
+use mathlib.Core.Bool.{true}
+use Rattle.regulator.specs.State.{adds_up}
+use Rattle.regulator.proofs.Laws.Refusing.{hand_full, hand_on}
+use borrow.Author.Rules.{rules}
+use Rattle.regulator.proofs.refusals.check_hand_in.Goals as goal
+
+pub returns-then-s-eq4294967295 : goal.returns-then-s-eq4294967295
+returns-then-s-eq4294967295 c =
+    let sound : adds_up c.args.s ≡ true = search rules in
+    sym (hand_full c.args.s c.args.p sound c.if-s-eq4294967295.true)
+
+pub returns : goal.returns
+returns c =
+    let sound : adds_up c.args.s ≡ true = search rules in
+    c.check.ensures ∙ sym (hand_on c.args.s c.args.p sound c.if-s-eq4294967295.false)
