@@ -9,7 +9,7 @@ use Rattle.share.specs.Call.{Call, slot, yield, hand_in}
 use Rattle.share.specs.Run.{run}
 use Rattle.share.specs.Share.{Every}
 use Rattle.cases.specs.Cases.{value_of, plan_b, three, offer, offer3, handing_in, script}
-use Rattle.wait.specs.Wait.{Decision, decisions, domain_count, in_arow, Passes, Under}
+use Rattle.wait.specs.Wait.{Decision, decisions, domain_count, in_a_row, Passes, Under}
 
 -- what plan A is read as
 abbrev pub read_a : Plan
@@ -50,10 +50,10 @@ of_best_effort = yield 1 1 ∷ replicate 4 (offer 1 1 1)
 -- with 33 and 21 before the last. In the fourth plan A is handed in once more, and takes force, an equal plan, after the first slot.
 pub record LongestWaits : Type 0 where
   pub planned : domain_count read_a ≡ 2
-  pub periods : PutOff 1 (in_arow 3 3 (decided_on (over_two_periods []))) (three 6 2 1 ∷ three 1 2 2 ∷ three 2 1 2 ∷ [])
-  pub best : PutOff 0 (in_arow 1 3 (decided_on of_best_effort)) (three 2 1 2 ∷ three 2 2 1 ∷ three 1 2 4 ∷ [])
-  pub waiting : PutOff 2 (in_arow 0 3 (decided_on handing_in)) (three 1 2 2 ∷ three 6 1 2 ∷ three 6 2 1 ∷ [])
-  pub equal : PutOff 1 (in_arow 3 3 (decided_on (over_two_periods (hand_in read_a ∷ [])))) (three 6 2 1 ∷ three 1 2 2 ∷ three 2 1 2 ∷ [])
+  pub periods : PutOff 1 (in_a_row 3 3 (decided_on (over_two_periods []))) (three 6 2 1 ∷ three 1 2 2 ∷ three 2 1 2 ∷ [])
+  pub best : PutOff 0 (in_a_row 1 3 (decided_on of_best_effort)) (three 2 1 2 ∷ three 2 2 1 ∷ three 1 2 4 ∷ [])
+  pub waiting : PutOff 2 (in_a_row 0 3 (decided_on handing_in)) (three 1 2 2 ∷ three 6 1 2 ∷ three 6 2 1 ∷ [])
+  pub equal : PutOff 1 (in_a_row 3 3 (decided_on (over_two_periods (hand_in read_a ∷ [])))) (three 6 2 1 ∷ three 1 2 2 ∷ three 2 1 2 ∷ [])
 
 -- Domain 1 passes in four slots in a row; plan B takes force after the first of them.
 abbrev under_two_plans : List Call
@@ -72,9 +72,9 @@ passed_over = offer 1 1 1 ∷ offer 1 1 1 ∷ offer 1 0 0 ∷ offer 0 1 1 ∷ of
 pub record LeftOut : Type 0 where
   -- "under one plan": plan B plans two domains as plan A does
   pub planned : domain_count plan_b ≡ domain_count read_a
-  pub plans : map (λ (d : Decision). d.plan) (in_arow 3 4 (decided_on under_two_plans)) ≡ read_a ∷ replicate 3 plan_b
-  pub renewed : shown_in (in_arow 3 4 (decided_on under_two_plans)) ≡ three 6 2 1 ∷ with_three 2 2 1 ∷ with_three 1 2 5 ∷ with_three 6 1 5 ∷ []
+  pub plans : map (λ (d : Decision). d.plan) (in_a_row 3 4 (decided_on under_two_plans)) ≡ read_a ∷ replicate 3 plan_b
+  pub renewed : shown_in (in_a_row 3 4 (decided_on under_two_plans)) ≡ three 6 2 1 ∷ with_three 2 2 1 ∷ with_three 1 2 5 ∷ with_three 6 1 5 ∷ []
   -- "in a row": domain 2 passes in three slots before it is granted
   pub passed : shown_in (decided_on passed_over) ≡ three 1 2 2 ∷ three 6 1 2 ∷ three 1 0 0 ∷ three 0 1 2 ∷ three 2 2 1 ∷ []
   -- "passes the rules": best effort is blocked, with 6, in three slots of document 01's run
-  pub blocked : verdicts_of 0 (in_arow 1 3 (decided_on script)) ≡ replicate 3 6
+  pub blocked : verdicts_of 0 (in_a_row 1 3 (decided_on script)) ≡ replicate 3 6

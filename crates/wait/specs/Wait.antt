@@ -33,8 +33,8 @@ abbrev pub domain_count : Plan → ℕ
 domain_count p = length (domains_of p)
 
 -- "in a row": so many of the decided slots, from one on
-abbrev pub in_arow : (first count : ℕ) → List Decision → List Decision
-in_arow first count slots = take count (drop first slots)
+abbrev pub in_a_row : (first count : ℕ) → List Decision → List Decision
+in_a_row first count slots = take count (drop first slots)
 
 -- "is granted": verdict 1
 abbrev pub IsGranted : ℕ → Decision → Type 0
@@ -55,7 +55,7 @@ Under p d = d.plan ≡ p
 abbrev pub WaitBound : Type 0
 WaitBound = (s : State) (cs : List Call) (p : Plan) (number first : ℕ)
     → let count = domain_count p + 1 in
-    let row = in_arow first count (decisions s (run s cs)) in
+    let row = in_a_row first count (decisions s (run s cs)) in
     length row ≡ count
     → Every (Passes number) row
     → Every (Under p) row
