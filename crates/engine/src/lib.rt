@@ -6,6 +6,7 @@
 // run_slot is the same call for a caller whose state is known to add up and who does not ask for the verdicts, as a replay does.
 // masks_of, waiting, is_blocked, passing and pick are the steps of a decision, for a caller that keeps masks from slot to slot.
 #![tactic(auto)]
+
 mod calls;
 mod masks;
 mod turn;
