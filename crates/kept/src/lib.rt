@@ -7,6 +7,7 @@
 //
 // slot refuses nothing: it requires what a state that adds up gives (Ready), and offers of which each number makes one at most.
 #![tactic(auto)]
+
 mod deciding;
 mod grant;
 mod numbers;
