@@ -4,6 +4,7 @@
 //
 // Nothing is promised of Other: who is told so reads the bytes one by one.
 #![tactic(auto)]
+
 mod answer;
 mod lanes;
 mod masks;

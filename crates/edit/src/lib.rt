@@ -11,6 +11,7 @@
 //
 // A refused edit keeps every byte.
 #![tactic(auto)]
+
 mod adding;
 mod chain;
 mod compacting;

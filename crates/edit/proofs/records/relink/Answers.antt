@@ -1,0 +1,11 @@
+-- `edit::records::relink` meets its contract.
+-- Assumes nothing.
+use Rattle.edit.proofs.Laws.Storing.{store_first, store_other}
+use borrow.Author.Rules.{rules}
+use Rattle.edit.proofs.records.relink.Goals as goal
+
+pub returns-then-k-eq0 : goal.returns-then-k-eq0
+returns-then-k-eq0 c = store_first c.args.k c.args.l c.args.b (search rules) c.if-k-eq0.true
+
+pub returns : goal.returns
+returns c = store_other c.args.k c.args.l c.args.b (search rules) c.if-k-eq0.false
