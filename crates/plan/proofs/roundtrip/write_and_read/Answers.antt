@@ -51,7 +51,7 @@ slice_bounds-read-end-2 c =
 pub returns-clause-value : goal.returns-clause-value
 unfolding read_back
 returns-clause-value c =
-    let sized : Sized c.args.p = record { planned = search rules; reservation = search rules; reclaimcap = search rules; writebackcap = search rules; writebackreservation = search rules; marked = search rules } in
+    let sized : Sized c.args.p = search rules in
     let refused_is : c.write-w.result.refused ≡ (write_plan c.args.p (length c.args.buffer.now)).refused = ap (λ (w : Writing). w.refused) c.write-w.ensures.value in
     let took : (let a = c.args in (write_plan a.p (length a.buffer.now)).refused ≡ 0) = sym (refused_is) ∙ c.if-w-ne0.false in
     c.read.ensures
