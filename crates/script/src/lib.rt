@@ -8,6 +8,7 @@
 //
 // line_end, is_open_end, read_numbers and what puts text into a lent buffer are for another program over scripts.
 #![tactic(auto)]
+
 mod carrying;
 mod feeding;
 mod line;
