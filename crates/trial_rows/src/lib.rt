@@ -1,6 +1,8 @@
 // The rows of a list of calls, counted from the verdicts told. A number's row is in how many decided slots in a row, under one
 // plan, it passed the rules and was not granted: verdict 2. With n domains planned no row is above n (Point 8 of document 02).
 // Rows lie in 344 lent words: those of one list, and behind them what was counted in all lists, last what was seen of turns.
+#![tactic(auto)]
+
 ghost use Rattle.std.specs.Prelude.{◌<◌, ◌≤◌};
 
 pub mod turns;
