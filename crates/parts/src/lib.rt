@@ -1,10 +1,12 @@
 // Input for a program that works in constant memory: a file read whole, and standard input read part by part.
 //
-// read_file(name, buffer): how many bytes of a file went to the lent buffer.
-// refill(text, used, filled): keeps what is left of the part in hand, and reads more of standard input behind it.
+// read_file(files, name, buffer): how many bytes of a file went to the lent buffer.
+// read_full(input, buffer): the same of a reader, to its end or to the buffer's.
+// refill(input, text, used, filled): keeps what is left of the part in hand, and reads more of the input behind it.
 #![tactic(auto)]
+
 mod file;
 mod input;
 
-pub use file::read_file;
+pub use file::{read_file, read_full};
 pub use input::{Part, refill};

@@ -1,17 +1,22 @@
 // The replay: reads the file `plan` and a script on standard input, and prints the periods.
 #![tactic(auto)]
+
 ghost use Rattle.std.specs.Prelude.{◌≡◌, length};
 ghost use Rattle.parts.specs.Input.{Kept};
 ghost use Rattle.replay.specs.Buffers.{Within};
 
 use script::Run;
+use std::io::{Read, Write};
+
+// The bytes of each of the two buffers: the part of the script in hand, and text that is still to be written.
+const BUFFER: usize = 65536;
 
 // The bytes of the output buffer that are kept free for what one line prints.
 const ROOM: usize = 512;
 
 // A script that is read part by part: the run, the bytes of the part in hand, whether there may be more, and whether the system failed
 // to read or to write.
-#[derive(Drop)]
+#[derive(Clone, Copy)]
 struct Stream {
     run: Run,
     filled: usize,
@@ -30,12 +35,18 @@ fn placed(r: Run, used: usize, at: usize) -> Run
 }
 
 // Keeps what is left of the part, and reads more of the script behind it.
-fn read_more(r: Run, text: &mut [u8], filled: usize, out_room: usize) -> Stream
+fn read_more<R: Read>(
+    r: Run,
+    source: &mut R,
+    text: &mut [u8],
+    filled: usize,
+    out_room: usize,
+) -> Stream
     requires { Within r filled (length text.old) out_room }
     ensures within { Within result.run result.filled (length text.new) out_room }
     ensures kept { Kept r.used filled text.old text.new }
 {
-    let part = parts::refill(text, r.used, filled);
+    let part = parts::refill(source, text, r.used, filled);
     let run = placed(r, 0, r.at);
     Stream {
         run,
@@ -46,12 +57,11 @@ fn read_more(r: Run, text: &mut [u8], filled: usize, out_room: usize) -> Stream
 }
 
 // Writes the text out, and goes on with an empty output buffer.
-fn write_block(r: Run, filled: usize, room: usize, out: &[u8]) -> Stream
+fn write_block<W: Write>(r: Run, filled: usize, room: usize, out: &[u8], sink: &mut W) -> Stream
     requires { Within r filled room (length out.now) }
     ensures { Within result.run result.filled room (length out.now) }
 {
-    let at = r.at;
-    let written = io::write_all(libc::STDOUT_FILENO, &out[..at]);
+    let written = sink.write_all(&out[..r.at]).is_ok();
     let run = placed(r, r.used, 0);
     Stream {
         run,
@@ -62,13 +72,18 @@ fn write_block(r: Run, filled: usize, room: usize, out: &[u8]) -> Stream
 }
 
 // Carries out the lines of the part, and then makes room in one of the two buffers.
-fn advance(s: Stream, text: &mut [u8], out: &mut [u8]) -> Stream
+fn advance<R: Read, W: Write>(
+    s: Stream,
+    source: &mut R,
+    text: &mut [u8],
+    sink: &mut W,
+    out: &mut [u8],
+) -> Stream
     requires { Within s.run s.filled (length text.old) (length out.old) }
     ensures { Within result.run result.filled (length text.new) (length out.new) }
 {
     let filled = s.filled;
-    let was = s.run;
-    let run = script::feed(was, &text[..filled], out, ROOM);
+    let run = script::feed(s.run, &text[..filled], out, ROOM);
     if run.refused != 0 {
         return Stream {
             run,
@@ -78,13 +93,19 @@ fn advance(s: Stream, text: &mut [u8], out: &mut [u8]) -> Stream
         };
     }
     if out.len() - run.at < ROOM {
-        return write_block(run, filled, text.len(), out);
+        return write_block(run, filled, text.len(), out, sink);
     }
-    read_more(run, text, filled, out.len())
+    read_more(run, source, text, filled, out.len())
 }
 
 // Reads the script to its end, or to a line that is refused.
-fn read_script(run: Run, text: &mut [u8], out: &mut [u8]) -> Stream
+fn read_script<R: Read, W: Write>(
+    run: Run,
+    source: &mut R,
+    text: &mut [u8],
+    sink: &mut W,
+    out: &mut [u8],
+) -> Stream
     requires { Within run 0 (length text.old) (length out.old) }
     ensures { Within result.run result.filled (length text.new) (length out.new) }
 {
@@ -96,46 +117,39 @@ fn read_script(run: Run, text: &mut [u8], out: &mut [u8]) -> Stream
     };
     let mut turns = u64::MAX;
     while turns > 0 {
-        if s.more {} else {
+        if !s.more {
             return s;
         }
-        s = advance(s, text, out);
+        s = advance(s, source, text, sink, out);
         turns -= 1;
     }
     s
 }
 
-fn complain() {
-    io::write_all(
-        libc::STDERR_FILENO,
-        b"replay: a read or a write failed, the text is not whole\n",
-    );
+fn complain(rt: &impl Eprint) {
+    let _ = eprintln!(rt; "replay: a read or a write failed, the text is not whole");
 }
 
-// The end of the run: the rest of the text, and a word where the system failed.
-fn conclude(s: Stream, text: &[u8], out: &mut [u8])
+// The end of the run: the rest of the text. Tells whether the text is whole.
+fn conclude<W: Write>(s: Stream, text: &[u8], sink: &mut W, out: &mut [u8]) -> bool
     requires { Within s.run s.filled (length text.now) (length out.old) }
 {
-    let run = s.run;
     if s.failed {
-        let at = run.at;
-        io::write_all(libc::STDOUT_FILENO, &out[..at]);
-        complain();
-        return;
+        let _ = sink.write_all(&out[..s.run.at]);
+        return false;
     }
-    let filled = s.filled;
-    let at = script::finish(run, &text[..filled], out);
-    if io::write_all(libc::STDOUT_FILENO, &out[..at]) {} else {
-        complain();
-    }
+    let at = script::finish(s.run, &text[..s.filled], out);
+    sink.write_all(&out[..at]).is_ok()
 }
 
-fn main() {
+fn main(rt: HostRuntime) {
     let mut plan = [0u8; 1040];
-    let n = parts::read_file(b"plan", &mut plan);
-    let mut text = io::large_buffer();
-    let mut out = io::large_buffer();
+    let n = parts::read_file(&rt, "plan", &mut plan);
+    let mut text = [0u8; BUFFER];
+    let mut out = [0u8; BUFFER];
     let run = script::start(&plan[..n], &mut out);
-    let s = read_script(run, &mut text, &mut out);
-    conclude(s, &text, &mut out);
+    let s = read_script(run, &mut rt.stdin(), &mut text, &mut rt.stdout(), &mut out);
+    if !conclude(s, &text, &mut rt.stdout(), &mut out) {
+        complain(&rt);
+    }
 }

@@ -9,7 +9,7 @@ use trial_states::calls::Call;
 use trial_states::{calls, forms};
 
 // The model's answer, its sort, 0 where nothing was asked, and whether the library's is the same.
-#[derive(Drop)]
+#[derive(Clone, Copy)]
 pub struct Asked {
     pub cause: Cause,
     pub sort: usize,

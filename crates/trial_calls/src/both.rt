@@ -12,7 +12,7 @@ use trial_states::calls::Call;
 use trial_states::{calls, forms};
 
 // What a call told beside its state and counts.
-#[derive(Drop)]
+#[derive(Clone, Copy)]
 pub struct Told {
     pub number: u32,
     pub place: u32,
@@ -30,7 +30,7 @@ pub const REFUSED: u8 = 2;
 
 // What the library told, by the first engine, beside the model's refusal and whether all is the same; the second engine's part;
 // and the sort of the cause that was asked for.
-#[derive(Drop)]
+#[derive(Clone, Copy)]
 pub struct Outcome {
     pub told: Told,
     pub verdict: Verdict,
@@ -50,7 +50,7 @@ fn refusal(number: u32, place: u32) -> Told {
 }
 
 pub fn same_bytes(a: [u8; 18], b: [u8; 18]) -> bool {
-    check::same(&a, &b)
+    a == b
 }
 
 fn same_told(a: Told, b: Told) -> bool {
@@ -194,7 +194,7 @@ fn model_call(words: &mut [u64], counts: &mut [u64], c: Call, p: Plan) -> Told {
 }
 
 // The second engine's part in a call, and whether what it answers on a state of these words is the model's.
-#[derive(Drop)]
+#[derive(Clone, Copy)]
 struct Second {
     part: u8,
     same: bool,
@@ -287,14 +287,12 @@ pub fn agree(page: &[u64], now: &[u64], number: u32) -> bool {
     if number != 0 {
         return true;
     }
-    let mut k: usize = 0;
-    while k < cells::COUNTS {
+    for k in 0..cells::COUNTS {
         if is_kept(k / cells::COLUMNS, k % cells::COLUMNS) {
             if forms::word(page, k) != forms::word(now, k) {
                 return false;
             }
         }
-        k += 1;
     }
     true
 }

@@ -2,9 +2,11 @@
 // fixed by seeds, holds each list against the ledger and the bound of its rows, and prints what was compared. Every slot is put
 // to both engines, and the cause of one of its verdicts is asked for.
 #![tactic(auto)]
+
 use run::{Case, Run};
 use seen::Seen;
-use trial_kit::{draw, tally};
+use std::io;
+use trial_kit::{draw, read_full, tally};
 use trial_states::styles::Style;
 use trial_states::{passing, styles};
 
@@ -18,6 +20,9 @@ mod seen;
 mod turns;
 
 const KINDS: u32 = 37;
+
+// The most bytes of the text that states cases.
+const GIVEN: usize = 65536;
 
 fn start() -> Run {
     Run {
@@ -43,37 +48,38 @@ fn try_case(r: Run, rows: &mut [u64], of: Case, style: Style) -> Run {
     }
 }
 
-fn try_kind(before: Run, rows: &mut [u64], kind: u32) -> Run {
+fn try_kind(rt: &impl Print, before: Run, rows: &mut [u64], kind: u32) -> io::Result<Run> {
     let style = styles::of_kind(kind);
     let mut r = with_next_kind(before);
-    let mut case: u32 = 0;
-    while case < style.runs {
+    for case in 0..style.runs {
         let of = Case {
             kind,
             case,
-            seed: draw::draw(std::num::wrapping_add_u32(kind, 1000), case),
+            seed: draw::draw(kind.wrapping_add(1000), case),
         };
         let next = try_case(r, rows, of, style);
         r = next;
-        case += 1;
     }
     let t = r.tally;
-    report::kind_line(t, kind);
-    r
+    report::kind_line(rt, t, kind)?;
+    Ok(r)
 }
 
-fn main() {
-    let mut text = io::large_buffer();
+// The stated cases and those of all kinds, given the text that states them.
+fn try_all(rt: &impl Print, given: &[u8]) -> io::Result<()> {
     let mut rows = [0u64; 344];
-    let bytes = io::read_full(0, &mut text);
-    let mut r = script::cases(start(), &mut rows, &text[..bytes]);
-    let mut kind: u32 = 0;
-    while kind < KINDS {
-        let next = try_kind(r, &mut rows, kind);
+    let mut r = script::cases(rt, start(), &mut rows, given)?;
+    for kind in 0..KINDS {
+        let next = try_kind(rt, r, &mut rows, kind)?;
         r = next;
-        kind += 1;
     }
     let t = r.tally;
     let s = r.seen;
-    report::last_lines(t, s, &rows);
+    report::last_lines(rt, t, s, &rows)
+}
+
+fn main(rt: HostRuntime) -> io::Result<()> {
+    let mut given = [0u8; GIVEN];
+    let bytes = read_full(&mut rt.stdin(), &mut given)?;
+    try_all(&rt, &given[..bytes])
 }

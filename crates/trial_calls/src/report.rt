@@ -1,12 +1,13 @@
 // The names of the kinds, and the lines after them.
 use super::seen::Seen;
 use super::{rows, script, seen};
-use trial_kit::report::say;
+use std::io;
 use trial_kit::tally::Tally;
 use trial_kit::{lines, report};
 
-fn say_kind(kind: u32) {
+fn say_kind(rt: &impl Print, kind: u32) -> io::Result<()> {
     lines::say_nth(
+        rt,
         b"openings of plans that are accepted\n\
         openings of plans with one fault, several or none\n\
         runs with P 1\n\
@@ -45,32 +46,31 @@ fn say_kind(kind: u32) {
         every turn with sets of one to sixteen that pass on claim, all others blocked\n\
         every turn with passing sets of every size, loose at most 0 and nobody waiting on claim\n",
         kind as usize,
-    );
+    )
 }
 
-fn say_name(kind: u32) {
+fn say_name(rt: &impl Print, kind: u32) -> io::Result<()> {
     if kind == script::STATED {
-        say(b"stated cases");
+        print!(rt; "stated cases")
     } else {
-        say_kind(kind);
+        say_kind(rt, kind)
     }
 }
 
-pub fn kind_line(t: Tally, kind: u32) {
-    say_name(kind);
-    report::counts_line(t);
+pub fn kind_line(rt: &impl Print, t: Tally, kind: u32) -> io::Result<()> {
+    say_name(rt, kind)?;
+    report::counts_line(rt, t)
 }
 
 // What was seen, the rows, the refusals, the total, and where something differed its first kind and case.
-pub fn last_lines(t: Tally, s: Seen, rows: &[u64]) {
-    seen::lines(s);
-    rows::lines(rows);
-    report::told_lines(t, &[2, 9, 10, 11, 21, 22, 23, 30, 31, 32, 33, 34]);
+pub fn last_lines(rt: &impl Print, t: Tally, s: Seen, rows: &[u64]) -> io::Result<()> {
+    seen::lines(rt, s)?;
+    rows::lines(rt, rows)?;
+    report::told_lines(rt, t, &[2, 9, 10, 11, 21, 22, 23, 30, 31, 32, 33, 34])?;
     if t.alldiffer != 0 {
-        say(b"first difference: ");
-        say_name(t.firstkind);
-        report::say_number(b", case ", t.firstcase);
-        say(b"\n");
+        print!(rt; "first difference: ")?;
+        say_name(rt, t.firstkind)?;
+        println!(rt; ", case {}", t.firstcase)?;
     }
-    report::total_line(t);
+    report::total_line(rt, t)
 }

@@ -1,6 +1,7 @@
 // The rows of Point 8: each call of a list is entered into them, and what was counted of them, and of turns, is printed.
 use super::both::Told;
-use trial_kit::{lines, report};
+use std::io;
+use trial_kit::lines;
 use trial_rows::turns;
 use trial_states::calls;
 
@@ -35,8 +36,9 @@ pub fn is_row(rows: &[u64], text: &[u8], at: usize) -> bool {
     trial_rows::row(rows, number) == lines::number(text, at, 12, 2)
 }
 
-fn say_name(k: usize) {
+fn say_name(rt: &impl Print, k: usize) -> io::Result<()> {
     lines::say_nth(
+        rt,
         b"times that a number passed and was not granted\n\
         longest row of such slots of a number, under one plan\n\
         rows that came to be n, the domains planned, of best effort\n\
@@ -49,36 +51,30 @@ fn say_name(k: usize) {
         rows above n\n\
         rows above n, had a different plan not ended them\n",
         k,
-    );
+    )
 }
 
-fn say_full(rows: &[u64]) {
-    report::say(b"rows that came to be n, by n from 1 to 16:");
-    let mut n: usize = 1;
-    while n <= 16 {
-        report::say_number(b" ", trial_rows::full(rows, n));
-        n += 1;
+fn say_full(rt: &impl Print, rows: &[u64]) -> io::Result<()> {
+    print!(rt; "rows that came to be n, by n from 1 to 16:")?;
+    for n in 1..=16 {
+        print!(rt; " {}", trial_rows::full(rows, n))?;
     }
-    report::say(b"\n");
+    println!(rt)
 }
 
-fn say_turns(rows: &[u64]) {
-    report::say_number(
-        b"turns and sizes of passing sets seen: ",
-        turns::sizes(rows),
-    );
-    report::say_number(b" of 306\nturns and steps seen: ", turns::steps(rows));
-    report::say(b" of 306\n");
+fn say_turns(rt: &impl Print, rows: &[u64]) -> io::Result<()> {
+    println!(rt;
+        "turns and sizes of passing sets seen: {} of 306",
+        turns::sizes(rows)
+    )?;
+    println!(rt; "turns and steps seen: {} of 306", turns::steps(rows))
 }
 
-pub fn lines(rows: &[u64]) {
-    let mut k: usize = 0;
-    while k < trial_rows::LINES {
-        say_name(k);
-        report::say_number(b": ", trial_rows::count(rows, k));
-        report::say(b"\n");
-        k += 1;
+pub fn lines(rt: &impl Print, rows: &[u64]) -> io::Result<()> {
+    for k in 0..trial_rows::LINES {
+        say_name(rt, k)?;
+        println!(rt; ": {}", trial_rows::count(rows, k))?;
     }
-    say_full(rows);
-    say_turns(rows);
+    say_full(rt, rows)?;
+    say_turns(rt, rows)
 }

@@ -10,7 +10,7 @@ use trial_states::styles::Style;
 use trial_states::{calls, changes, draws, estimates, forms, handing, marks, sums, writes};
 
 // What was compared and seen so far, and the domains of the plan before the one in force, 0 where there was none.
-#[derive(Drop)]
+#[derive(Clone, Copy)]
 pub struct Run {
     pub tally: Tally,
     pub seen: Seen,
@@ -18,7 +18,7 @@ pub struct Run {
 }
 
 // A case of a kind, and the number drawn for it.
-#[derive(Drop)]
+#[derive(Clone, Copy)]
 pub struct Case {
     pub kind: u32,
     pub case: u32,
@@ -234,7 +234,7 @@ fn step(
     style: Style,
     i: u32,
 ) -> Run {
-    let seed = draw::draw(of.seed, std::num::wrapping_add_u32(i, 100000));
+    let seed = draw::draw(of.seed, i.wrapping_add(100000));
     let c = next_call(now, of, style, seed);
     let after = with_call(r, now, page, rows, of, c);
     with_changed(after, now, of, style, seed)
@@ -247,11 +247,9 @@ pub fn tried(before: Run, rows: &mut [u64], of: Case, style: Style) -> Run {
     let p = styles::plan_of(style.plans, of.case, of.seed);
     forms::put_plan(&mut now, forms::GIVEN, p);
     let mut r = with_call(before, &mut now, &mut page, rows, of, calls::opening());
-    let mut i: u32 = 0;
-    while i < style.steps {
+    for i in 0..style.steps {
         let next = step(r, &mut now, &mut page, rows, of, style, i);
         r = next;
-        i += 1;
     }
     r
 }

@@ -38,6 +38,7 @@ use super::run::{Case, Run};
 use super::{asked, both, rows, run, seen};
 use model_calls::{Cause, cells};
 use plan::Plan;
+use std::io;
 use trial_kit::{lines, report, tally, values};
 use trial_states::calls::Call;
 use trial_states::{calls, forms};
@@ -46,7 +47,7 @@ use trial_states::{calls, forms};
 pub const STATED: u32 = 100;
 
 // The run so far, the case at hand and where its name stands, and whether the last call told counts.
-#[derive(Drop)]
+#[derive(Clone, Copy)]
 pub struct Script {
     pub run: Run,
     pub of: Case,
@@ -56,12 +57,10 @@ pub struct Script {
 
 // Seventeen digits as bytes, and a byte behind them.
 fn digits_of(text: &[u8], at: usize, offset: usize, behind: u8) -> [u8; 18] {
-    let from = std::num::wrapping_add_usize(at, offset);
+    let from = at.wrapping_add(offset);
     let mut all = [behind; 18];
-    let mut k: usize = 0;
-    while k < 17 {
+    for k in 0..17 {
         all[k] = lines::digit(text, from, k);
-        k += 1;
     }
     all
 }
@@ -247,14 +246,14 @@ fn is_word(words: &[u64], text: &[u8], at: usize, offset: usize) -> bool
 }
 
 // An estimate that stands at an offset, as the model's kind and bits.
-#[derive(Drop)]
+#[derive(Clone, Copy)]
 struct Estimate {
     kind: u64,
     bits: u64,
 }
 
 fn estimate_at(text: &[u8], at: usize, offset: usize) -> Estimate {
-    match lines::byte(text, std::num::wrapping_add_usize(at, offset)) {
+    match lines::byte(text, at.wrapping_add(offset)) {
         b'n' => Estimate { kind: 0, bits: 0 },
         b'N' => Estimate { kind: 2, bits: 0 },
         _ => Estimate {
@@ -318,10 +317,8 @@ fn put_domains(text: &[u8], at: usize, now: &mut [u64]) {
         put_domain(text, at, now, named, 1);
         return;
     }
-    let mut number: usize = 1;
-    while number <= 16 {
+    for number in 1..=16 {
         put_domain(text, at, now, number, 1);
-        number += 1;
     }
 }
 
@@ -380,14 +377,14 @@ fn put_line(text: &[u8], at: usize, now: &mut [u64], page: &mut [u64]) {
 }
 
 // The counts of the case at hand are printed, and the next begins.
-fn case_line(s: Script, text: &[u8], at: usize) -> Script {
+fn case_line(rt: &impl Print, s: Script, text: &[u8], at: usize) -> io::Result<Script> {
     let mut after = s;
     let mut r = s.run;
     let t = r.tally;
     let of = s.of;
     if of.case > 0 {
-        lines::say_line(text, s.named);
-        report::counts_line(t);
+        lines::say_line(rt, text, s.named)?;
+        report::counts_line(rt, t)?;
     }
     let fresh = tally::next_kind(t);
     r.tally = fresh;
@@ -398,11 +395,12 @@ fn case_line(s: Script, text: &[u8], at: usize) -> Script {
         seed: 0,
     };
     after.of = next;
-    after.named = std::num::wrapping_add_usize(at, 5);
-    after
+    after.named = at.wrapping_add(5);
+    Ok(after)
 }
 
 fn line(
+    rt: &impl Print,
     s: Script,
     text: &[u8],
     at: usize,
@@ -410,27 +408,27 @@ fn line(
     counts: &mut [u64],
     page: &mut [u64],
     rows: &mut [u64],
-) -> Script {
+) -> io::Result<Script> {
     match lines::byte(text, at) {
-        b'c' => case_line(s, text, at),
-        b'o' | b'g' | b's' | b'y' => call_line(s, text, at, now, counts, page, rows),
+        b'c' => case_line(rt, s, text, at),
+        b'o' | b'g' | b's' | b'y' => Ok(call_line(s, text, at, now, counts, page, rows)),
         b'p' | b'd' | b'b' | b'm' => {
             put_line(text, at, now, page);
-            s
+            Ok(s)
         }
         b'l' | b'a' | b'k' => {
             put_line(text, at, now, page);
             trial_rows::begin(rows);
-            s
+            Ok(s)
         }
-        b'u' => stated(s, rows::is_row(rows, text, at)),
-        b'q' => query_line(s, text, at, now),
-        _ => stated(s, holds(text, at, now, page, counts, s.complete)),
+        b'u' => Ok(stated(s, rows::is_row(rows, text, at))),
+        b'q' => Ok(query_line(s, text, at, now)),
+        _ => Ok(stated(s, holds(text, at, now, page, counts, s.complete))),
     }
 }
 
 // All cases of the text. Its last line begins a case without a name, so that the one before is printed.
-pub fn cases(before: Run, rows: &mut [u64], text: &[u8]) -> Run {
+pub fn cases(rt: &impl Print, before: Run, rows: &mut [u64], text: &[u8]) -> io::Result<Run> {
     let mut now = [0u64; 714];
     let mut counts = [0u64; 238];
     let mut page = [0u64; 476];
@@ -446,9 +444,9 @@ pub fn cases(before: Run, rows: &mut [u64], text: &[u8]) -> Run {
     };
     let mut at: usize = 0;
     while at < text.len() {
-        let next = line(s, text, at, &mut now, &mut counts, &mut page, rows);
+        let next = line(rt, s, text, at, &mut now, &mut counts, &mut page, rows)?;
         s = next;
         at = lines::after_line(text, at);
     }
-    s.run
+    Ok(s.run)
 }

@@ -4,6 +4,7 @@ ghost use Rattle.std.specs.Prelude.{◌≤◌};
 use super::both;
 use super::both::Told;
 use model_calls::{Entry, cells};
+use std::io;
 use trial_kit::lines::say_nth;
 use trial_kit::{report, tally};
 use trial_states::{calls, estimates};
@@ -11,7 +12,7 @@ use trial_states::{calls, estimates};
 // How often verdicts 0 to 6 were told stands at 0 to 6, how often steps 0 to 17 at 80 to 97, and behind them, by their sorts,
 // the estimates of marked domains before and after closes, and the needs that they leave; then what was put to the second
 // engine, and the causes that were asked for.
-#[derive(Drop)]
+#[derive(Clone, Copy)]
 pub struct Seen {
     pub counts: [u32; 155],
 }
@@ -92,24 +93,20 @@ pub fn raised(seen: Seen, k: usize, by: u32) -> Seen {
 // Each line from one on whose mark is set.
 pub fn marked(seen: Seen, from: usize, marks: &[bool]) -> Seen {
     let mut after = seen;
-    let mut k: usize = 0;
-    while k < marks.len() {
+    for k in 0..marks.len() {
         if marks[k] {
-            let next = raised(after, std::num::wrapping_add_usize(from, k), 1);
+            let next = raised(after, from.wrapping_add(k), 1);
             after = next;
         }
-        k += 1;
     }
     after
 }
 
 fn with_verdicts(seen: Seen, verdicts: [u8; 18]) -> Seen {
     let mut after = seen;
-    let mut n: usize = 0;
-    while n < 17 {
+    for n in 0..17 {
         let next = raised(after, (verdicts[n] % 7) as usize, 1);
         after = next;
-        n += 1;
     }
     after
 }
@@ -132,12 +129,10 @@ fn small(counts: &[u64], row: usize, column: usize) -> u32 {
 fn with_counts(seen: Seen, counts: &[u64]) -> Seen {
     let steps = small(counts, 0, cells::STEPS);
     let mut after = with_sum(raised(seen, PERIODS, 1), steps);
-    let mut n: usize = 1;
-    while n <= 16 {
+    for n in 1..=16 {
         let one = raised(after, RECLAIMED, small(counts, n, cells::RECLAIMED));
         let two = raised(one, WRITEBACKS, small(counts, n, cells::WRITEBACKS));
         after = two;
-        n += 1;
     }
     after
 }
@@ -190,11 +185,9 @@ pub fn with_close(seen: Seen, before: &[u64], after: &[u64], complete: bool) -> 
         return seen;
     }
     let mut all = seen;
-    let mut row: usize = 1;
-    while row <= 16 {
+    for row in 1..=16 {
         let next = with_marked(all, before, after, row);
         all = next;
-        row += 1;
     }
     all
 }
@@ -213,8 +206,9 @@ pub fn with_call(seen: Seen, what: u8, t: Told, e: Entry, counts: &[u64], renewe
 }
 
 // The lines before those of plans handed in.
-fn say_first(k: usize) {
+fn say_first(rt: &impl Print, k: usize) -> io::Result<()> {
     say_nth(
+        rt,
         b"verdict 0\n\
         verdict 1, slots granted\n\
         verdict 2\n\
@@ -238,12 +232,13 @@ fn say_first(k: usize) {
         changed states whose sum of steps is another\n\
         largest sum of steps of a completed period\n",
         k,
-    );
+    )
 }
 
 // The lines of plans handed in, from 0 on.
-fn say_of_plans(k: usize) {
+fn say_of_plans(rt: &impl Print, k: usize) -> io::Result<()> {
     say_nth(
+        rt,
         b"plans handed in and taken at T 0\n\
         plans handed in and taken in the middle of a period\n\
         plans handed in and taken at T P - 1\n\
@@ -276,12 +271,13 @@ fn say_of_plans(k: usize) {
         changed states with a plan beside that flag that would be refused\n\
         changed states with such a plan that add up\n",
         k,
-    );
+    )
 }
 
 // The lines of writebacks, from 0 on.
-fn say_of_writes(k: usize) {
+fn say_of_writes(rt: &impl Print, k: usize) -> io::Result<()> {
     say_nth(
+        rt,
         b"domains with both reservations that kept asking through a completed period\n\
         writebacks granted on claim\n\
         writebacks granted without claim while access claim is left\n\
@@ -298,12 +294,13 @@ fn say_of_writes(k: usize) {
         changed states with a writeback claim, writebacks above the reservation\n\
         changed states with writebacks above the reservation that add up\n",
         k,
-    );
+    )
 }
 
 // The lines of forecasts, from 0 on.
-fn say_of_forecasts(k: usize) {
+fn say_of_forecasts(rt: &impl Print, k: usize) -> io::Result<()> {
     say_nth(
+        rt,
         b"periods that begin with a yield by forecast\n\
         periods at whose end a new plan drops estimates\n\
         periods at whose end the plan in force again drops them\n\
@@ -317,77 +314,74 @@ fn say_of_forecasts(k: usize) {
         changed states with an estimate that is a NaN that add up\n\
         domains that have yielded by forecast and kept asking through a completed period\n",
         k,
-    );
+    )
 }
 
-fn say_name(k: usize) {
+fn say_name(rt: &impl Print, k: usize) -> io::Result<()> {
     if k < PLANS {
-        say_first(k);
-        return;
+        return say_first(rt, k);
     }
     if k < TWOFOLD {
-        say_of_plans(k - PLANS);
-        return;
+        return say_of_plans(rt, k - PLANS);
     }
     if k < FORECASTS {
-        say_of_writes(k - TWOFOLD);
+        say_of_writes(rt, k - TWOFOLD)
     } else {
-        say_of_forecasts(k - FORECASTS);
+        say_of_forecasts(rt, k - FORECASTS)
     }
 }
 
 // A name, and the counts from one to before another.
-fn say_row(seen: Seen, name: &[u8], from: usize, to: usize)
+fn say_row(rt: &impl Print, seen: Seen, name: &str, from: usize, to: usize) -> io::Result<()>
     requires { to ≤ 155 }
 {
-    report::say(name);
-    let mut k = from;
-    while k < to {
-        report::say_number(b" ", seen.counts[k]);
-        k += 1;
+    print!(rt; "{name}")?;
+    for k in from..to {
+        print!(rt; " {}", seen.counts[k])?;
     }
-    report::say(b"\n");
+    println!(rt)
 }
 
 // The counts that stand in rows: steps, estimates and needs, what the second engine was asked, and causes.
-fn say_rows(seen: Seen) {
-    say_row(seen, b"slots by their steps, 0 to 17:", STEPS, BEFORE);
+fn say_rows(rt: &impl Print, seen: Seen) -> io::Result<()> {
+    say_row(rt, seen, "slots by their steps, 0 to 17:", STEPS, BEFORE)?;
     say_row(
+        rt,
         seen,
-        b"estimates of marked domains before a close: none, NaN, 0, subnormal, negative, 4,096, whole, next above a whole \
+        "estimates of marked domains before a close: none, NaN, 0, subnormal, negative, 4,096, whole, next above a whole \
         number, next below, above Q, others, -0, infinite, -infinite:",
         BEFORE,
         AFTER,
-    );
+    )?;
     say_row(
+        rt,
         seen,
-        b"estimates after it, of the same sorts without the last three:",
+        "estimates after it, of the same sorts without the last three:",
         AFTER,
         NEEDS,
-    );
+    )?;
     say_row(
+        rt,
         seen,
-        b"needs by estimate: 0 of Q 0, 0 and 1 of Q 1, and of a larger Q none, some, all but one, all:",
+        "needs by estimate: 0 of Q 0, 0 and 1 of Q 1, and of a larger Q none, some, all but one, all:",
         NEEDS,
         SECOND,
-    );
+    )?;
     say_row(
+        rt,
         seen,
-        b"slot calls put to the second engine, and of them refused by it:",
+        "slot calls put to the second engine, and of them refused by it:",
         SECOND,
         CAUSES,
-    );
-    report::say_causes();
-    say_row(seen, b"", CAUSES + 1, COUNTS);
+    )?;
+    report::say_causes(rt)?;
+    say_row(rt, seen, "", CAUSES + 1, COUNTS)
 }
 
-pub fn lines(seen: Seen) {
-    let mut k: usize = 0;
-    while k < STEPS {
-        say_name(k);
-        report::say_number(b": ", seen.counts[k]);
-        report::say(b"\n");
-        k += 1;
+pub fn lines(rt: &impl Print, seen: Seen) -> io::Result<()> {
+    for k in 0..STEPS {
+        say_name(rt, k)?;
+        println!(rt; ": {}", seen.counts[k])?;
     }
-    say_rows(seen);
+    say_rows(rt, seen)
 }

@@ -18,7 +18,7 @@ pub fn all3(a: bool, b: bool, c: bool) -> bool {
 }
 
 pub fn same_bytes(a: &[u8; 1104], b: &[u8; 1104]) -> bool {
-    check::same(a, b)
+    a == b
 }
 
 // What stands before a lent file and behind it.
@@ -31,10 +31,8 @@ fn byte_or_guard(file: &[u8], k: usize) -> u8 {
 // The file between 32 guard bytes before it and as many or more behind.
 pub fn framed(file: &[u8]) -> [u8; 1104] {
     let mut all = [GUARD; 1104];
-    let mut k: usize = 0;
-    while k < 1040 {
+    for k in 0..1040 {
         all[32 + k] = byte_or_guard(file, k);
-        k += 1;
     }
     all
 }
@@ -51,7 +49,7 @@ fn wanted(d: NewDomain) -> Wanted {
 }
 
 // What the library tells of an edit; of all but a rescue no record counts as kept.
-#[derive(Drop)]
+#[derive(Clone, Copy)]
 struct Answered {
     refused: u32,
     place: u32,
@@ -139,13 +137,11 @@ fn reads(file: &[u8], period: u32, domains: [u32; 96]) -> bool {
 
 // Whether a record differs in two files.
 fn differs(before: &[u8], after: &[u8], record: u32) -> bool {
-    let mut offset: u32 = 0;
-    while offset < 16 {
+    for offset in 0..16 {
         let at = bytes::place(record, offset);
         if bytes::get(before, at) != bytes::get(after, at) {
             return true;
         }
-        offset += 1;
     }
     false
 }
@@ -153,10 +149,8 @@ fn differs(before: &[u8], after: &[u8], record: u32) -> bool {
 // In how many records two files differ.
 fn changed(before: &[u8], after: &[u8]) -> u32 {
     let mut count: u32 = 0;
-    let mut record: u32 = 0;
-    while record < 65 {
+    for record in 0..65 {
         count += words::one_if(differs(before, after, record));
-        record += 1;
     }
     count
 }
@@ -184,7 +178,7 @@ fn still_refused(file: &[u8], c: Call, m: Told) -> bool {
 // else the plan due, with two records changed at most, or none by a further compaction.
 fn holds(before: &[u8], after: &[u8], c: Call, m: Told) -> bool {
     if m.number != 0 {
-        return both(check::same(before, after), still_refused(after, c, m));
+        return both(before == after, still_refused(after, c, m));
     }
     if c.what == calls::RESCUE {
         return rescued::holds(before, after, m.kept);
@@ -200,7 +194,7 @@ fn holds(before: &[u8], after: &[u8], c: Call, m: Told) -> bool {
 }
 
 // What the model tells of an edit, with its place and the records kept, and whether the library tells and does the same.
-#[derive(Drop)]
+#[derive(Clone, Copy)]
 pub struct Outcome {
     pub verdict: Verdict,
     pub place: u32,
@@ -208,7 +202,7 @@ pub struct Outcome {
 }
 
 // A file that the library has edited where it was lent out of a larger buffer, and what it told.
-#[derive(Drop)]
+#[derive(Clone, Copy)]
 struct Edited {
     told: Answered,
     all: [u8; 1104],

@@ -1,10 +1,12 @@
 // Compares the library's edits of plan files with the model's on stated cases and on files and calls that are fixed by seeds,
 // and prints what was compared.
 #![tactic(auto)]
+
+use std::io;
 use trial_files::{calls, files};
 use trial_kit::bytes::least;
 use trial_kit::tally::Tally;
-use trial_kit::{draw, tally};
+use trial_kit::{draw, read_full, tally};
 
 mod compare;
 mod report;
@@ -14,6 +16,9 @@ mod stated;
 
 // Kind 0 are the stated cases.
 const KINDS: u32 = 30;
+
+// The most bytes of the text that states cases.
+const GIVEN: usize = 65536;
 
 // How many files each kind has.
 fn cases(kind: u32) -> u32 {
@@ -51,7 +56,7 @@ fn edit_one(
     file: &mut [u8],
     seen: &mut [u32],
 ) -> Tally {
-    let drawn = draw::draw(seed, std::num::wrapping_add_u32(k, 1000));
+    let drawn = draw::draw(seed, k.wrapping_add(1000));
     let o = compare::tried(file, calls::drawn(file, kind, case, k, drawn), seen);
     let v = o.verdict;
     tally::counted(t, kind, case, v)
@@ -68,11 +73,9 @@ fn edit_all(
 ) -> Tally {
     let most = calls::edits(kind);
     let mut t = before;
-    let mut k: u32 = 0;
-    while k < most {
+    for k in 0..most {
         let next = edit_one(t, kind, case, k, seed, file, seen);
         t = next;
-        k += 1;
     }
     t
 }
@@ -85,42 +88,38 @@ fn try_file(t: Tally, kind: u32, case: u32, seen: &mut [u32]) -> Tally {
     edit_all(t, kind, case, seed, &mut file[0..end], seen)
 }
 
-fn try_kind(before: Tally, kind: u32, seen: &mut [u32]) -> Tally {
+fn try_kind(rt: &impl Print, before: Tally, kind: u32, seen: &mut [u32]) -> io::Result<Tally> {
     let mut t = tally::next_kind(before);
     let most = cases(kind);
-    let mut case: u32 = 0;
-    while case < most {
+    for case in 0..most {
         let next = try_file(t, kind, case, seen);
         t = next;
-        case += 1;
     }
-    report::kind_line(t, kind);
-    t
+    report::kind_line(rt, t, kind)?;
+    Ok(t)
 }
 
-fn try_kinds(before: Tally, seen: &mut [u32]) -> Tally {
+fn try_kinds(rt: &impl Print, before: Tally, seen: &mut [u32]) -> io::Result<Tally> {
     let mut t = before;
-    let mut kind: u32 = 1;
-    while kind < KINDS {
-        let next = try_kind(t, kind, seen);
+    for kind in 1..KINDS {
+        let next = try_kind(rt, t, kind, seen)?;
         t = next;
-        kind += 1;
     }
-    t
+    Ok(t)
 }
 
 // The stated cases and those of all kinds, given the text that states them.
-fn try_all(given: &[u8]) {
+fn try_all(rt: &impl Print, given: &[u8]) -> io::Result<()> {
     let mut seen = [0u32; 264];
-    let before = stated::cases(tally::start(), given, &mut seen);
-    let t = try_kinds(before, &mut seen);
-    seen::lines(&seen);
-    rescued::lines(&seen);
-    report::last_lines(t);
+    let before = stated::cases(rt, tally::start(), given, &mut seen)?;
+    let t = try_kinds(rt, before, &mut seen)?;
+    seen::lines(rt, &seen)?;
+    rescued::lines(rt, &seen)?;
+    report::last_lines(rt, t)
 }
 
-fn main() {
-    let mut given = io::large_buffer();
-    let bytes = io::read_full(0, &mut given);
-    try_all(&given[..bytes]);
+fn main(rt: HostRuntime) -> io::Result<()> {
+    let mut given = [0u8; GIVEN];
+    let bytes = read_full(&mut rt.stdin(), &mut given)?;
+    try_all(&rt, &given[..bytes])
 }

@@ -1,9 +1,11 @@
 // The lines of the kinds, and the last ones.
+use std::io;
 use trial_kit::tally::Tally;
 use trial_kit::{lines, report};
 
-fn say_kind(kind: u32) {
+fn say_kind(rt: &impl Print, kind: u32) -> io::Result<()> {
     lines::say_nth(
+        rt,
         b"stated cases\n\
         dropping from chains in any order\n\
         dropping 0 to 17, and wide numbers\n\
@@ -35,21 +37,20 @@ fn say_kind(kind: u32) {
         rescued: files refused with 1 to 3\n\
         rescued and edited, one after the other\n",
         kind as usize,
-    );
+    )
 }
 
-pub fn kind_line(t: Tally, kind: u32) {
-    say_kind(kind);
-    report::counts_line(t);
+pub fn kind_line(rt: &impl Print, t: Tally, kind: u32) -> io::Result<()> {
+    say_kind(rt, kind)?;
+    report::counts_line(rt, t)
 }
 
 // The total, and where something differed its first kind and case.
-pub fn last_lines(t: Tally) {
+pub fn last_lines(rt: &impl Print, t: Tally) -> io::Result<()> {
     if t.alldiffer != 0 {
-        report::say(b"first difference: ");
-        say_kind(t.firstkind);
-        report::say_number(b", case ", t.firstcase);
-        report::say(b"\n");
+        print!(rt; "first difference: ")?;
+        say_kind(rt, t.firstkind)?;
+        println!(rt; ", case {}", t.firstcase)?;
     }
-    report::total_line(t);
+    report::total_line(rt, t)
 }

@@ -4,6 +4,7 @@ ghost use Rattle.std.specs.Prelude.{◌≤◌};
 use super::compare::{all3, framed, same_bytes};
 use model_edits::chain;
 use model_plans::words;
+use std::io;
 use trial_kit::bytes::least;
 use trial_kit::lines::say_nth;
 use trial_kit::tally::both;
@@ -38,11 +39,7 @@ fn rescued_already(file: &[u8], kept: u32) -> bool {
 // Whether a file that was accepted has all its bytes.
 fn left_alone(before: &[u8], after: &[u8]) -> bool {
     let a = model_plans::read(before);
-    if a.number == 0 {
-        check::same(before, after)
-    } else {
-        true
-    }
+    if a.number == 0 { before == after } else { true }
 }
 
 // Whether a file that was rescued holds what it has to.
@@ -113,13 +110,13 @@ fn count_rescued(before: &[u8], after: &[u8], kept: u32, seen: &mut [u32]) {
     let a = model_plans::read(before);
     let earlier = model_plans::read_with_leftovers(before);
     let taken = chain::records(before);
-    let fell = std::num::wrapping_sub_u32(taken, kept);
+    let fell = taken.wrapping_sub(kept);
     let row = fault_row(earlier.number);
     counts::raise(seen, READ + reading(a.number), 1);
     counts::raise_if(seen, CUT + 17 * row + small(taken), row < 7);
     counts::raise(seen, FELL + small(fell), 1);
     counts::raise(seen, KEPT + small(kept), 1);
-    let way = done(row < 7, fell, check::same(before, after));
+    let way = done(row < 7, fell, before == after);
     counts::raise(seen, DONE + way, 1);
 }
 
@@ -131,8 +128,9 @@ pub fn count(before: &[u8], after: &[u8], number: u32, kept: u32, seen: &mut [u3
     }
 }
 
-fn say_name(k: usize) {
+fn say_name(rt: &impl Print, k: usize) -> io::Result<()> {
     say_nth(
+        rt,
         b"rescued, and refused with 1, 2, 3\n\
         rescued where reading told 0, 4 to 12\n\
         a link cut for 4 after 0 to 16 records\n\
@@ -146,7 +144,7 @@ fn say_name(k: usize) {
         0 to 16 records kept\n\
         a link cut, records fallen, both, leftovers zeroed alone, nothing done\n",
         k,
-    );
+    )
 }
 
 // How many counts stand under a name.
@@ -159,13 +157,12 @@ fn width(name: usize) -> usize {
     }
 }
 
-pub fn lines(seen: &[u32]) {
+pub fn lines(rt: &impl Print, seen: &[u32]) -> io::Result<()> {
     let mut from = FIRST;
-    let mut name: usize = 0;
-    while name < 12 {
-        say_name(name);
-        counts::say_row(seen, from, width(name));
-        from = std::num::wrapping_add_usize(from, width(name));
-        name += 1;
+    for name in 0..12 {
+        say_name(rt, name)?;
+        counts::say_row(rt, seen, from, width(name))?;
+        from = from.wrapping_add(width(name));
     }
+    Ok(())
 }

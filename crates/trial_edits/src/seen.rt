@@ -5,6 +5,7 @@ use super::rescued;
 use edit::NewDomain;
 use model_edits::{Told, adding, chain};
 use model_plans::{Answer, words};
+use std::io;
 use trial_files::calls;
 use trial_files::calls::Call;
 use trial_kit::bytes::least;
@@ -142,10 +143,8 @@ fn row(number: u32) -> usize
 fn count_later(a: Answer, d: NewDomain, free: u32, number: u32, seen: &mut [u32]) {
     let first = row(number);
     counts::raise_if(seen, SUMS + 1, both(number == 10, comes_to(a, d, 1)));
-    let mut which: usize = 0;
-    while which < 5 {
+    for which in 0..5 {
         counts::raise_if(seen, LATER + 5 * first + which, would(a, d, free, which));
-        which += 1;
     }
 }
 
@@ -155,8 +154,8 @@ fn comes_to(a: Answer, d: NewDomain, more: u64) -> bool
 {
     let domains = a.domains;
     let t = words::count(a.period, domains);
-    let own = std::num::wrapping_add_u64(d.reservation, d.writebackreservation);
-    std::num::wrapping_add_u64(t.reservations, own) == words::wider(a.period) + more
+    let own = d.reservation.wrapping_add(d.writebackreservation);
+    t.reservations.wrapping_add(own) == words::wider(a.period) + more
 }
 
 // A domain that was added: where, whether P is reached, whether marked, and whether with a writeback reservation.
@@ -189,7 +188,7 @@ fn compacting(file: &[u8], after: &[u8]) -> usize
     if chain::records(file) == 0 {
         return 0;
     }
-    if check::same(file, &after[0..size]) {
+    if file == &after[0..size] {
         return 1;
     }
     if a.number == 12 { 3 } else { 2 }
@@ -221,8 +220,9 @@ fn count_edit(file: &[u8], after: &[u8], c: Call, number: u32, seen: &mut [u32])
     }
 }
 
-fn say_name(k: usize) {
+fn say_name(rt: &impl Print, k: usize) -> io::Result<()> {
     say_nth(
+        rt,
         b"dropped, and refused with 1 to 12, 71, 72\n\
         added, and refused with 1 to 12, 71, 72\n\
         compacted, and refused with 1 to 12, 71, 72\n\
@@ -238,7 +238,7 @@ fn say_name(k: usize) {
         72 for a number that is there when cut to 32, 16, 8 bits, and for others\n\
         added plain, marked, with a writeback reservation, with both\n",
         k,
-    );
+    )
 }
 
 // How many counts stand under a name.
@@ -251,13 +251,12 @@ fn width(name: usize) -> usize {
     }
 }
 
-pub fn lines(seen: &[u32]) {
+pub fn lines(rt: &impl Print, seen: &[u32]) -> io::Result<()> {
     let mut from: usize = 0;
-    let mut name: usize = 0;
-    while name < 14 {
-        say_name(name);
-        counts::say_row(seen, from, width(name));
-        from = std::num::wrapping_add_usize(from, width(name));
-        name += 1;
+    for name in 0..14 {
+        say_name(rt, name)?;
+        counts::say_row(rt, seen, from, width(name))?;
+        from = from.wrapping_add(width(name));
     }
+    Ok(())
 }

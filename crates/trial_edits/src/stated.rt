@@ -16,6 +16,7 @@
 // the edit is named, but for what `then` says, and is the plan file behind `due`. All else begins anew with `case`.
 use super::compare;
 use model_plans::words;
+use std::io;
 use trial_files::calls;
 use trial_files::calls::Call;
 use trial_kit::files::LONGEST;
@@ -28,7 +29,7 @@ const STATED: u32 = 0;
 
 // Where the reader stands: the case's number and where its name begins, the bytes so far of the plan file, and where the line of
 // the edit begins.
-#[derive(Drop)]
+#[derive(Clone, Copy)]
 struct Stand {
     case: u32,
     named: usize,
@@ -42,7 +43,7 @@ fn wide(x: u8) -> u64 {
 
 // The number with a digit more, kept to 64 bits.
 fn with_digit(value: u64, digit: u8) -> u64 {
-    std::num::wrapping_add_u64(value % 1844674407370955162 * 10, wide(digit))
+    (value % 1844674407370955162 * 10).wrapping_add(wide(digit))
 }
 
 fn without_space(left: u32, b: u8) -> u32 {
@@ -57,13 +58,11 @@ fn without_space(left: u32, b: u8) -> u32 {
 fn behind(given: &[u8], at: usize, spaces: u32) -> usize {
     let end = lines::line_end(given, at);
     let mut left = spaces;
-    let mut k = at;
-    while k < end {
+    for k in at..end {
         if left == 0 {
             return k;
         }
         left = without_space(left, lines::byte(given, k));
-        k += 1;
     }
     end
 }
@@ -71,13 +70,11 @@ fn behind(given: &[u8], at: usize, spaces: u32) -> usize {
 // The number that stands there, or 0.
 fn field(given: &[u8], at: usize, spaces: u32) -> u64 {
     let mut value: u64 = 0;
-    let mut k = behind(given, at, spaces);
-    while k < given.len() {
+    for k in behind(given, at, spaces)..given.len() {
         if given[k] <= b' ' {
             return value;
         }
         value = with_digit(value, lines::digit(given, k, 0));
-        k += 1;
     }
     value
 }
@@ -122,10 +119,8 @@ fn with_call(s: Stand, at: usize, file: &[u8], due: &mut [u8]) -> Stand {
 
 // The bytes of one buffer over those of another.
 fn copy(to: &mut [u8], from: &[u8]) {
-    let mut k: usize = 0;
-    while k < to.len() {
+    for k in 0..to.len() {
         to[k] = bytes::get(from, k);
-        k += 1;
     }
 }
 
@@ -147,7 +142,7 @@ fn next_case(s: Stand, at: usize, file: &mut [u8]) -> Stand {
     bytes::fill(file, LONGEST, 0, bytes::ZEROS);
     Stand {
         case: tally::more(s.case),
-        named: std::num::wrapping_add_usize(at, 5),
+        named: at.wrapping_add(5),
         size: 0,
         called: at,
     }
@@ -155,7 +150,7 @@ fn next_case(s: Stand, at: usize, file: &mut [u8]) -> Stand {
 
 // The second byte of a line.
 fn sort(given: &[u8], at: usize) -> u8 {
-    lines::byte(given, std::num::wrapping_add_usize(at, 1))
+    lines::byte(given, at.wrapping_add(1))
 }
 
 // What a line says of the file due.
@@ -205,7 +200,7 @@ fn compared(
         o.place == small(given, at, 2),
         is_kept_due(given, at, c.what, o.kept),
     );
-    let same = both(both(v.same, told), check::same(file, due));
+    let same = both(both(v.same, told), file == due);
     copy(file, due);
     Verdict {
         number: v.number,
@@ -214,16 +209,17 @@ fn compared(
 }
 
 // The counts of a case are printed before the next begins.
-fn closed(t: Tally, s: Stand, given: &[u8]) -> Tally {
+fn closed(rt: &impl Print, t: Tally, s: Stand, given: &[u8]) -> io::Result<Tally> {
     if s.case > 0 {
-        lines::say_line(given, s.named);
-        report::counts_line(t);
+        lines::say_line(rt, given, s.named)?;
+        report::counts_line(rt, t)?;
     }
-    tally::next_kind(t)
+    Ok(tally::next_kind(t))
 }
 
 // The tally after a line.
 fn tally_after(
+    rt: &impl Print,
     t: Tally,
     s: Stand,
     given: &[u8],
@@ -231,16 +227,16 @@ fn tally_after(
     file: &mut [u8],
     due: &[u8],
     seen: &mut [u32],
-) -> Tally {
+) -> io::Result<Tally> {
     match sort(given, at) {
-        b'a' => closed(t, s, given),
-        b'u' => tally::counted(t, STATED, s.case, compared(s, given, at, file, due, seen)),
-        _ => t,
+        b'a' => closed(rt, t, s, given),
+        b'u' => Ok(tally::counted(t, STATED, s.case, compared(s, given, at, file, due, seen))),
+        _ => Ok(t),
     }
 }
 
 // All cases of the text. Its last line begins a case without a name, so that the one before is printed.
-pub fn cases(before: Tally, given: &[u8], seen: &mut [u32]) -> Tally {
+pub fn cases(rt: &impl Print, before: Tally, given: &[u8], seen: &mut [u32]) -> io::Result<Tally> {
     let mut file = [0u8; 1040];
     let mut due = [0u8; 1040];
     let mut t = before;
@@ -252,12 +248,12 @@ pub fn cases(before: Tally, given: &[u8], seen: &mut [u32]) -> Tally {
     };
     let mut at: usize = 0;
     while at < given.len() {
-        let tally = tally_after(t, s, given, at, &mut file, &due, seen);
+        let tally = tally_after(rt, t, s, given, at, &mut file, &due, seen)?;
         let stand = stand_after(s, given, at, &mut file, &mut due);
         t = tally;
         s = stand;
         put_due(given, at, &mut due);
         at = lines::after_line(given, at);
     }
-    t
+    Ok(t)
 }

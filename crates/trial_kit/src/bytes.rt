@@ -96,7 +96,7 @@ fn small_mark(x: u32) -> u8 {
 }
 
 fn filling(seed: u32, style: u32, at: u32) -> u8 {
-    let drawn = draw::draw(seed, std::num::wrapping_add_u32(at, 65536));
+    let drawn = draw::draw(seed, at.wrapping_add(65536));
     match style {
         0 => draw::low(drawn),
         1 => if drawn / 256 % 16 == 0 {
@@ -111,9 +111,7 @@ fn filling(seed: u32, style: u32, at: u32) -> u8 {
 
 // Fills the first bytes of a buffer, as many as are asked for or are there.
 pub fn fill(file: &mut [u8], bytes: u32, seed: u32, style: u32) {
-    let mut at: u32 = 0;
-    while at < bytes {
+    for at in 0..bytes {
         put(file, at as usize, filling(seed, style, at));
-        at += 1;
     }
 }

@@ -5,7 +5,7 @@ use super::{bytes, draw, values};
 use plan::Plan;
 
 // What a file was laid with: its records, its period, how many domains are on the chain and the record of each.
-#[derive(Drop)]
+#[derive(Clone, Copy)]
 pub struct Chain {
     pub records: u32,
     pub period: u32,
@@ -21,7 +21,7 @@ pub fn record_at(order: [u32; 64], position: u32) -> u32
 }
 
 // How far the chain is laid: the records in use, of how many, and the last of them.
-#[derive(Drop)]
+#[derive(Clone, Copy)]
 struct Laid {
     used: u32,
     most: u32,
@@ -106,11 +106,8 @@ fn lay_domains(file: &mut [u8], p: Plan, order: [u32; 64], domains: [u32; 64], m
         most,
         last: 0,
     };
-    let mut n: u32 = 0;
-    while n < 16 {
-        let next = with_domain(file, p, order, l, draw::entry(domains, n));
-        l = next;
-        n += 1;
+    for n in 0..16 {
+        l = with_domain(file, p, order, l, draw::entry(domains, n));
     }
     l.used
 }

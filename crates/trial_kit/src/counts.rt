@@ -1,5 +1,5 @@
 // Counts in lent words: raised, and printed in rows.
-use super::report;
+use std::io;
 
 fn value(counts: &[u32], k: usize) -> u32 {
     if k < counts.len() { counts[k] } else { 0 }
@@ -22,12 +22,10 @@ pub fn raise_if(counts: &mut [u32], k: usize, yes: bool) {
 }
 
 // So many counts from one on, behind the name of their row.
-pub fn say_row(counts: &[u32], from: usize, width: usize) {
-    report::say(b":");
-    let mut k: usize = 0;
-    while k < width {
-        report::say_number(b" ", value(counts, std::num::wrapping_add_usize(from, k)));
-        k += 1;
+pub fn say_row(rt: &impl Print, counts: &[u32], from: usize, width: usize) -> io::Result<()> {
+    print!(rt; ":")?;
+    for k in 0..width {
+        print!(rt; " {}", value(counts, from.wrapping_add(k)))?;
     }
-    report::say(b"\n");
+    println!(rt)
 }

@@ -14,7 +14,7 @@ fn mixed(x: u32) -> u32 {
 
 // The number drawn for a seed at a salt; each draw of one seed has a salt of its own.
 pub fn draw(seed: u32, salt: u32) -> u32 {
-    mixed(std::num::wrapping_add_u32(mixed(std::num::wrapping_add_u32(seed, 1)), salt))
+    mixed(mixed(seed.wrapping_add(1)).wrapping_add(salt))
 }
 
 // A number from 0 to the most given.
@@ -49,12 +49,10 @@ fn swapped_in(order: [u32; 64], i: u32, j: u32) -> [u32; 64] {
 // The numbers below n, at most 64 of them, in a drawn order.
 pub fn shuffled(seed: u32, salt: u32, n: u32) -> [u32; 64] {
     let mut order = [0u32; 64];
-    let mut i: u32 = 0;
-    while i < n {
-        let j = upto(seed, std::num::wrapping_add_u32(salt, i), i);
+    for i in 0..n {
+        let j = upto(seed, salt.wrapping_add(i), i);
         let next = swapped_in(order, i, j);
         order = next;
-        i += 1;
     }
     order
 }
@@ -72,10 +70,8 @@ fn in_row(n: u32, place: u32, falling: bool) -> u32 {
 // The numbers below 64 in rising order, or first those below n in falling order.
 pub fn row(n: u32, falling: bool) -> [u32; 64] {
     let mut order = [0u32; 64];
-    let mut i: u32 = 0;
-    while i < 64 {
+    for i in 0..64 {
         order[i as usize] = in_row(n, i, falling);
-        i += 1;
     }
     order
 }

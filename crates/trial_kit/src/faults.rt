@@ -71,7 +71,7 @@ fn damage_number(file: &mut [u8], c: Chain, record: u32, fault: u32, seed: u32) 
 fn damage_unlisted(file: &mut [u8], record: u32, fault: u32, seed: u32) {
     let offset = unlisted_offset(fault);
     let drawn = draw::upto(seed, 704, if offset == 3 { 253 } else { 254 });
-    let b = draw::low(std::num::wrapping_sub_u32(255, drawn));
+    let b = draw::low(255u32.wrapping_sub(drawn));
     bytes::put(file, bytes::place(record, offset), b);
 }
 
@@ -98,7 +98,7 @@ fn damage_amount(file: &mut [u8], period: u32, record: u32, which: u32) {
 fn damage_reservation(file: &mut [u8], period: u32, record: u32, which: u32) {
     let cap = bytes::pair(file, record, 8);
     let value = match which {
-        0 => std::num::wrapping_add_u32(cap, 1),
+        0 => cap.wrapping_add(1),
         1 => 65535,
         2 => bad_amount(period, 1),
         3 => cap,

@@ -14,7 +14,7 @@ fn put_record(file: &mut [u8], size: usize, given: &[u8], at: usize) -> usize {
         lines::small(given, at, 29, 5),
         lines::small(given, at, 35, 5),
     );
-    std::num::wrapping_add_usize(size, 16)
+    size.wrapping_add(16)
 }
 
 fn put_byte(file: &mut [u8], given: &[u8], at: usize) {

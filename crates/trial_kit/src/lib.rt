@@ -2,6 +2,7 @@
 // file off its chain, drawn numbers, drawn plans, the lines of a text, plan files given as such lines, the counts of what was
 // compared, counts of other things, and the lines of both.
 #![tactic(auto)]
+
 pub mod bytes;
 pub mod chain;
 pub mod counts;
@@ -17,3 +18,6 @@ pub mod spoiled;
 pub mod styles;
 pub mod tally;
 pub mod values;
+
+// The text that a test program is given, as much of it as a buffer takes.
+pub use parts::read_full;

@@ -1,14 +1,14 @@
 // The lines of a lent text: their bytes, digits and numbers, and where they end.
 ghost use Rattle.std.specs.Prelude.{◌<◌, ◌≤◌, length};
 
-use super::report;
+use std::io;
 
 pub fn byte(text: &[u8], at: usize) -> u8 {
     if at < text.len() { text[at] } else { 10 }
 }
 
 pub fn digit(text: &[u8], from: usize, k: usize) -> u8 {
-    let b = byte(text, std::num::wrapping_add_usize(from, k));
+    let b = byte(text, from.wrapping_add(k));
     if b < b'0' {
         return 0;
     }
@@ -23,7 +23,7 @@ fn wide(x: u8) -> u64
 
 // The number of so many digits, at an offset of the line that begins at a place; 0 behind the line's end.
 pub fn number(text: &[u8], at: usize, offset: usize, digits: usize) -> u64 {
-    let from = std::num::wrapping_add_usize(at, offset);
+    let from = at.wrapping_add(offset);
     if from < line_end(text, at) {
         digits_from(text, from, digits)
     } else {
@@ -33,28 +33,24 @@ pub fn number(text: &[u8], at: usize, offset: usize, digits: usize) -> u64 {
 
 fn digits_from(text: &[u8], from: usize, digits: usize) -> u64 {
     let mut value: u64 = 0;
-    let mut k: usize = 0;
-    while k < digits {
+    for k in 0..digits {
         value = value % 100000000000 * 10 + wide(digit(text, from, k));
-        k += 1;
     }
     value
 }
 
 // The number at an offset of such a line, of as many digits as stand there.
 pub fn figure(text: &[u8], at: usize, offset: usize) -> u64 {
-    let mut digits: usize = 0;
-    while digits < 20 {
+    for digits in 0..20 {
         if !is_digit(byte(text, place(at, offset, digits))) {
-            break;
+            return number(text, at, offset, digits);
         }
-        digits += 1;
     }
-    number(text, at, offset, digits)
+    number(text, at, offset, 20)
 }
 
 fn place(at: usize, offset: usize, k: usize) -> usize {
-    std::num::wrapping_add_usize(std::num::wrapping_add_usize(at, offset), k)
+    at.wrapping_add(offset).wrapping_add(k)
 }
 
 fn is_digit(b: u8) -> bool {
@@ -65,10 +61,8 @@ fn is_digit(b: u8) -> bool {
 pub fn bits(text: &[u8], at: usize, offset: usize) -> u64 {
     let end = line_end(text, at);
     let mut value: u64 = 0;
-    let mut k: usize = 0;
-    while k < 16 {
+    for k in 0..16 {
         value = value % 1152921504606846976 * 16 + nibble_at(text, place(at, offset, k), end);
-        k += 1;
     }
     value
 }
@@ -98,12 +92,10 @@ pub fn small(text: &[u8], at: usize, offset: usize, digits: usize) -> u32
 pub fn line_end(text: &[u8], from: usize) -> usize
     ensures { result ≤ length text.now }
 {
-    let mut at = from;
-    while at < text.len() {
+    for at in from..text.len() {
         if text[at] == 10 {
             return at;
         }
-        at += 1;
     }
     text.len()
 }
@@ -132,14 +124,15 @@ fn line_start(text: &[u8], k: usize) -> usize {
 }
 
 // Prints line k of a text, from 0 on.
-pub fn say_nth(text: &[u8], k: usize) {
-    say_line(text, line_start(text, k));
+pub fn say_nth(rt: &impl Print, text: &[u8], k: usize) -> io::Result<()> {
+    say_line(rt, text, line_start(text, k))
 }
 
 // Prints a line from a place on.
-pub fn say_line(text: &[u8], from: usize) {
+pub fn say_line(rt: &impl Print, text: &[u8], from: usize) -> io::Result<()> {
     let end = line_end(text, from);
     if from <= end {
-        report::say(&text[from..end]);
+        rt.write_all(&text[from..end])?;
     }
+    Ok(())
 }

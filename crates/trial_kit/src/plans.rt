@@ -6,9 +6,9 @@ use plan::Plan;
 fn wrong(seed: u32, salt: u32, most: u32) -> u32 {
     match draw::upto(seed, salt, 3) {
         0 => most,
-        1 => std::num::wrapping_add_u32(most, 1),
+        1 => most.wrapping_add(1),
         2 => 0,
-        _ => draw::upto(seed, std::num::wrapping_add_u32(salt, 1), 65535),
+        _ => draw::upto(seed, salt.wrapping_add(1), 65535),
     }
 }
 
@@ -21,7 +21,7 @@ fn damaged(p: Plan, seed: u32, salt: u32) -> Plan {
     } else {
         values::wide(p.period)
     };
-    values::with_word(p, k, wrong(seed, std::num::wrapping_add_u32(salt, 1), most))
+    values::with_word(p, k, wrong(seed, salt.wrapping_add(1), most))
 }
 
 // A domain made absent, and one of its numbers put above zero, or its mark to yes.
@@ -88,7 +88,7 @@ fn above_cap(p: Plan, domain: u32, seed: u32) -> Plan {
     let value = match draw::upto(seed, 75, 3) {
         0 => 65535,
         1 => values::wide(p.period) + 1,
-        _ => std::num::wrapping_add_u32(values::word(p, k + 3), 1),
+        _ => values::word(p, k + 3).wrapping_add(1),
     };
     values::with_word(values::with_word(p, k, 1), k + 4, value)
 }

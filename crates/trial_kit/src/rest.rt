@@ -7,14 +7,12 @@ use super::bytes;
 fn reached(file: &[u8]) -> [bool; 64] {
     let mut on = [false; 64];
     let mut at: u32 = 0;
-    let mut steps: u32 = 0;
-    while steps < 64 {
+    for _ in 0..64 {
         at = bytes::pair(file, at, bytes::link_offset(at));
         if at >= 64 {
             break;
         }
         on[at as usize] = true;
-        steps += 1;
     }
     on
 }
@@ -25,15 +23,13 @@ pub fn nth(file: &[u8], n: u32) -> u32
 {
     let on = reached(file);
     let mut left = n;
-    let mut k: u32 = 1;
-    while k < 64 {
+    for k in 1..64 {
         if !on[k as usize] {
             if left == 0 {
                 return k;
             }
             left -= 1;
         }
-        k += 1;
     }
     0
 }
@@ -41,10 +37,8 @@ pub fn nth(file: &[u8], n: u32) -> u32
 // Puts all of these to zeros.
 pub fn clear(file: &mut [u8]) {
     let on = reached(file);
-    let mut k: u32 = 1;
-    while k < 64 {
+    for k in 1..64 {
         clear_unless(file, k, on[k as usize]);
-        k += 1;
     }
 }
 

@@ -3,7 +3,7 @@ use super::chain::Chain;
 use super::{bytes, chain, draw, faults, files};
 
 // The refusal of 4 to 9 or 11 that is put in, or 0 for none, and how many records are taken.
-#[derive(Drop)]
+#[derive(Clone, Copy)]
 pub struct Spot {
     pub fault: u32,
     pub taken: u32,
@@ -79,7 +79,7 @@ pub fn put_in(file: &mut [u8], record: u32, seed: u32) {
 fn wrong_length(bytes: u32, turn: u32) -> u32 {
     match turn % 16 {
         0 => files::LONGEST,
-        k => std::num::wrapping_sub_u32(bytes, k),
+        k => bytes.wrapping_sub(k),
     }
 }
 

@@ -90,11 +90,8 @@ fn writers(seed: u32, case: u32, period: u32, w: u32, most: u32) -> Plan {
     let domains = case % 16 + 1;
     let first = draw::upto(seed, 6, 15);
     let mut p = values::with_period(values::nothing(), period);
-    let mut n: u32 = 0;
-    while n < domains {
-        let next = with_writer(p, first + n, w, most, seed);
-        p = next;
-        n += 1;
+    for n in 0..domains {
+        p = with_writer(p, first + n, w, most, seed);
     }
     p
 }
@@ -112,7 +109,7 @@ fn tight(seed: u32, case: u32) -> Plan {
 
 // The plan with a domain of this W, which reserves at most so much.
 fn with_writer(p: Plan, n: u32, w: u32, most: u32, seed: u32) -> Plan {
-    let drawn = draw::draw(seed, std::num::wrapping_add_u32(n, 100));
+    let drawn = draw::draw(seed, n.wrapping_add(100));
     let v = draw::upto(drawn, 1, most);
     let q = draw::upto(drawn, 2, if v <= most { most - v } else { 0 });
     let numbered = values::with_numbers(p, n, q, draw::upto(drawn, 3, w), w, v);

@@ -1,7 +1,7 @@
 // What was compared, what was told, and what differed.
 
 // The refusal that the model tells, and whether the library does all as the model does.
-#[derive(Drop)]
+#[derive(Clone, Copy)]
 pub struct Verdict {
     pub number: u32,
     pub same: bool,
@@ -9,7 +9,7 @@ pub struct Verdict {
 
 // The counts of the kind at hand, where leftovers are those refused with 12, those of all kinds, how often each refusal was
 // told, and the first difference.
-#[derive(Drop)]
+#[derive(Clone, Copy)]
 pub struct Tally {
     pub compared: u32,
     pub accepted: u32,

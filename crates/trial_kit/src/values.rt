@@ -71,10 +71,8 @@ pub fn with_period(p: Plan, period: u32) -> Plan {
 
 pub fn words(p: Plan) -> [u32; 96] {
     let mut all = [0u32; 96];
-    let mut k: u32 = 0;
-    while k < 96 {
+    for k in 0..96 {
         all[k as usize] = word(p, k);
-        k += 1;
     }
     all
 }
@@ -82,28 +80,15 @@ pub fn words(p: Plan) -> [u32; 96] {
 // The plan of this period and these words.
 pub fn plan_of(period: u32, words: [u32; 96]) -> Plan {
     let mut p = with_period(nothing(), period);
-    let mut k: u32 = 0;
-    while k < 96 {
-        let next = with_word(p, k, words[k as usize]);
-        p = next;
-        k += 1;
+    for k in 0..96 {
+        p = with_word(p, k, words[k as usize]);
     }
     p
 }
 
 // Whether all words of one list are those of another.
 pub fn same_words(a: &[u32], b: &[u32]) -> bool {
-    let mut k: usize = 0;
-    while k < a.len() {
-        if k >= b.len() {
-            return false;
-        }
-        if a[k] != b[k] {
-            return false;
-        }
-        k += 1;
-    }
-    true
+    b.starts_with(a)
 }
 
 pub fn nothing() -> Plan {
@@ -142,7 +127,7 @@ fn drawn_period(seed: u32, style: u32) -> u32 {
 fn left_out(seed: u32, style: u32, n: u32) -> bool {
     match style {
         1 | 2 | 4 => false,
-        _ => draw::upto(seed, std::num::wrapping_add_u32(n, 100), 3) < draw::upto(seed, 3, 4),
+        _ => draw::upto(seed, n.wrapping_add(100), 3) < draw::upto(seed, 3, 4),
     }
 }
 
@@ -168,13 +153,13 @@ fn share(seed: u32, style: u32, n: u32, left: u32, period: u32) -> u32 {
     }
     amount(
         seed,
-        std::num::wrapping_add_u32(n, 200),
+        n.wrapping_add(200),
         most_of(seed, style, left, period),
     )
 }
 
 // A plan while its domains are drawn, with what is left of its period.
-#[derive(Drop)]
+#[derive(Clone, Copy)]
 struct Draft {
     plan: Plan,
     left: u32,
@@ -196,10 +181,10 @@ fn part(seed: u32, n: u32, most: u32) -> u32 {
     if draw::upto(seed, 8, 3) == 0 {
         return 0;
     }
-    if draw::upto(seed, std::num::wrapping_add_u32(n, 700), 2) == 0 {
+    if draw::upto(seed, n.wrapping_add(700), 2) == 0 {
         return most / 2;
     }
-    amount(seed, std::num::wrapping_add_u32(n, 800), most)
+    amount(seed, n.wrapping_add(800), most)
 }
 
 // The plan with domain n + 1, of these numbers, where so much is for writebacks of what it reserves in all; in every fourth
@@ -207,7 +192,7 @@ fn part(seed: u32, n: u32, most: u32) -> u32 {
 fn with_share(p: Plan, n: u32, seed: u32, all: u32, r: u32, w: u32) -> Plan {
     let most = if w < all { w } else { all };
     let v = part(seed, n, most);
-    let capped = draw::upto(seed, std::num::wrapping_add_u32(n, 900), 3) == 0;
+    let capped = draw::upto(seed, n.wrapping_add(900), 3) == 0;
     with_numbers(
         p,
         n,
@@ -223,7 +208,7 @@ fn is_marked(seed: u32, n: u32) -> bool {
     match draw::upto(seed, 9, 2) {
         0 => false,
         1 => true,
-        _ => draw::upto(seed, std::num::wrapping_add_u32(n, 1000), 1) == 0,
+        _ => draw::upto(seed, n.wrapping_add(1000), 1) == 0,
     }
 }
 
@@ -235,8 +220,8 @@ fn with_domain(d: Draft, seed: u32, style: u32, n: u32) -> Draft {
     let p = d.plan;
     let period = wide(p.period);
     let all = share(seed, style, n, left, period);
-    let r = amount(seed, std::num::wrapping_add_u32(n, 300), period);
-    let w = amount(seed, std::num::wrapping_add_u32(n, 400), period);
+    let r = amount(seed, n.wrapping_add(300), period);
+    let w = amount(seed, n.wrapping_add(400), period);
     Draft {
         plan: with_mark(with_share(p, n, seed, all, r, w), n, is_marked(seed, n)),
         left: if all <= left { left - all } else { 0 },
@@ -254,11 +239,8 @@ pub fn drawn_in(seed: u32, style: u32, period: u32) -> Plan {
         plan: start,
         left: period,
     };
-    let mut n: u32 = 0;
-    while n < 16 {
-        let next = with_domain(d, seed, style, n);
-        d = next;
-        n += 1;
+    for n in 0..16 {
+        d = with_domain(d, seed, style, n);
     }
     d.plan
 }
@@ -289,5 +271,5 @@ fn with_one_more(p: Plan, k: u32, way: u32) -> Plan
 
 // The plan with word k raised by 1.
 fn with_more(p: Plan, k: u32) -> Plan {
-    with_word(p, k, std::num::wrapping_add_u32(word(p, k), 1))
+    with_word(p, k, word(p, k).wrapping_add(1))
 }

@@ -148,7 +148,7 @@ fn written(p: Plan, domains: [u32; 96], size: usize, seed: u32) -> Verdict {
     let back = comes_back(&a, t, expected(t, period, domains));
     Verdict {
         number: t.number,
-        same: all3(same_writing(w, t), check::same(&a, &b), back),
+        same: all3(same_writing(w, t), a == b, back),
     }
 }
 
@@ -161,7 +161,7 @@ fn returned(p: Plan, domains: [u32; 96], size: usize, seed: u32) -> bool {
     let t = model_writes(period, domains, &mut b, size);
     both(
         same_answers(answer(r), expected(t, period, domains)),
-        check::same(&a, &b),
+        a == b,
     )
 }
 

@@ -8,15 +8,13 @@ use trial_kit::{bytes, counts};
 // The place of the only byte of a record that is not zero; 16 where there are more.
 fn alone(file: &[u8], record: u32) -> usize {
     let mut found: usize = 16;
-    let mut offset: u32 = 0;
-    while offset < 16 {
+    for offset in 0..16 {
         if bytes::get(file, bytes::place(record, offset)) != 0 {
             if found < 16 {
                 return 16;
             }
             found = offset as usize;
         }
-        offset += 1;
     }
     found
 }

@@ -6,7 +6,7 @@ use trial_kit::tally::both;
 use trial_kit::{bytes, chain, draw, files, rest, values};
 
 // A file that was put: its bytes, and where they are known the refusal and the place that reading has to tell.
-#[derive(Drop)]
+#[derive(Clone, Copy)]
 pub struct Made {
     pub bytes: u32,
     pub known: bool,
@@ -29,7 +29,7 @@ fn known(records: u32, leftover: u32) -> Made {
 
 // How many records the chain does not reach.
 fn free(c: Chain) -> u32 {
-    std::num::wrapping_sub_u32(c.records, std::num::wrapping_add_u32(c.domains, 1))
+    c.records.wrapping_sub(c.domains.wrapping_add(1))
 }
 
 // A plan that is accepted, and at least one record that the chain does not reach.
@@ -51,7 +51,7 @@ fn any_rest(file: &mut [u8], seed: u32) -> Made {
 // One byte at each place of a record in turn: of the first record off the chain, of one in the middle, and of the last.
 fn one_byte(file: &mut [u8], case: u32, seed: u32) -> Made {
     let c = put_roomy(file, seed);
-    let last = std::num::wrapping_sub_u32(free(c), 1);
+    let last = free(c).wrapping_sub(1);
     let n = match case / 16 % 3 {
         0 => 0,
         1 => last / 2,
@@ -80,17 +80,15 @@ fn lower(a: u32, b: u32) -> u32 {
 // chain, or none.
 fn put_several(file: &mut [u8], free: u32, linked: bool, seed: u32) -> u32 {
     let count = 2 + draw::upto(seed, 814, 7);
-    let last = std::num::wrapping_sub_u32(free, 1);
+    let last = free.wrapping_sub(1);
     let mut lowest: u32 = 64;
     let mut before = bytes::pair(file, 0, 2);
-    let mut i: u32 = 0;
-    while i < count {
+    for i in 0..count {
         let drawn = draw::draw(seed, i + 820);
         let record = rest::nth(file, draw::upto(drawn, 0, last));
         put_one(file, record, before, linked, drawn);
         lowest = lower(lowest, record);
         before = record;
-        i += 1;
     }
     lowest
 }
@@ -115,10 +113,7 @@ fn largest(file: &mut [u8], case: u32, seed: u32) -> Made {
     let leftover = match way {
         0 => 0,
         1 => 63,
-        _ => rest::nth(
-            file,
-            draw::upto(seed, 815, std::num::wrapping_sub_u32(62, taken)),
-        ),
+        _ => rest::nth(file, draw::upto(seed, 815, 62u32.wrapping_sub(taken))),
     };
     put_in(file, leftover, seed);
     known(64, leftover)

@@ -1,11 +1,13 @@
 // Compares the library's plans with the model's on stated cases and on files and values that are fixed by seeds, and prints
 // what was compared.
 #![tactic(auto)]
+
 use leftovers::Made;
 use seen::Outcome;
+use std::io;
 use trial_kit::bytes::least;
 use trial_kit::tally::{Tally, both};
-use trial_kit::{draw, tally};
+use trial_kit::{draw, read_full, tally};
 
 mod compare;
 mod files;
@@ -21,6 +23,9 @@ mod writes;
 
 // Kind 0 are the stated cases; the kinds 16 to 22, 27 and 29 are of plan values, all others of files.
 const KINDS: u32 = 41;
+
+// The most bytes of the text that states cases.
+const GIVEN: usize = 65536;
 
 // How many cases each kind has.
 fn cases(kind: u32) -> u32 {
@@ -72,42 +77,38 @@ fn try_case(kind: u32, case: u32, seen: &mut [u32]) -> Outcome {
     }
 }
 
-fn try_kind(before: Tally, kind: u32, seen: &mut [u32]) -> Tally {
+fn try_kind(rt: &impl Print, before: Tally, kind: u32, seen: &mut [u32]) -> io::Result<Tally> {
     let mut t = tally::next_kind(before);
     let most = cases(kind);
-    let mut case: u32 = 0;
-    while case < most {
+    for case in 0..most {
         let outcome = try_case(kind, case, seen);
         let next = seen::counted(t, kind, case, outcome, seen);
         t = next;
-        case += 1;
     }
-    report::kind_line(t, kind);
-    t
+    report::kind_line(rt, t, kind)?;
+    Ok(t)
 }
 
-fn try_kinds(before: Tally, seen: &mut [u32]) -> Tally {
+fn try_kinds(rt: &impl Print, before: Tally, seen: &mut [u32]) -> io::Result<Tally> {
     let mut t = before;
-    let mut kind: u32 = 1;
-    while kind < KINDS {
-        let next = try_kind(t, kind, seen);
+    for kind in 1..KINDS {
+        let next = try_kind(rt, t, kind, seen)?;
         t = next;
-        kind += 1;
     }
-    t
+    Ok(t)
 }
 
 // The stated cases and those of all kinds, given the text that states them.
-fn try_all(given: &[u8]) {
+fn try_all(rt: &impl Print, given: &[u8]) -> io::Result<()> {
     let mut seen = [0u32; 230];
-    let before = stated::cases(tally::start(), given, &mut seen);
-    let t = try_kinds(before, &mut seen);
-    seen::lines(&seen);
-    report::last_lines(t);
+    let before = stated::cases(rt, tally::start(), given, &mut seen)?;
+    let t = try_kinds(rt, before, &mut seen)?;
+    seen::lines(rt, &seen)?;
+    report::last_lines(rt, t)
 }
 
-fn main() {
-    let mut given = io::large_buffer();
-    let bytes = io::read_full(0, &mut given);
-    try_all(&given[..bytes]);
+fn main(rt: HostRuntime) -> io::Result<()> {
+    let mut given = [0u8; GIVEN];
+    let bytes = read_full(&mut rt.stdin(), &mut given)?;
+    try_all(&rt, &given[..bytes])
 }

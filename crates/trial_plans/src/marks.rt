@@ -7,10 +7,8 @@ use trial_kit::{bytes, counts, values};
 // How many domains are marked.
 fn marked(domains: [u32; 96]) -> u32 {
     let mut sum: u32 = 0;
-    let mut n: u32 = 1;
-    while n <= 16 {
-        sum = std::num::wrapping_add_u32(sum, words::word(domains, n, 5));
-        n += 1;
+    for n in 1..=16 {
+        sum = sum.wrapping_add(words::word(domains, n, 5));
     }
     sum
 }
@@ -28,12 +26,10 @@ fn mark_alone(domains: [u32; 96], n: u32) -> bool {
 
 // Whether one of the domains is such.
 fn any_alone(domains: [u32; 96]) -> bool {
-    let mut n: u32 = 1;
-    while n <= 16 {
+    for n in 1..=16 {
         if mark_alone(domains, n) {
             return true;
         }
-        n += 1;
     }
     false
 }

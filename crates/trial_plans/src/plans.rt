@@ -8,7 +8,7 @@ pub fn made(kind: u32, case: u32, seed: u32) -> Plan {
     let way = match kind {
         27 => 6,
         29 => 7,
-        _ => std::num::wrapping_sub_u32(kind, 17),
+        _ => kind.wrapping_sub(17),
     };
     plans::made(way, case, seed)
 }
@@ -26,9 +26,9 @@ fn short(p: Plan, case: u32) -> u32 {
         0 => 0,
         1 => 15,
         2 => 16,
-        3 => std::num::wrapping_sub_u32(bytes, 1),
+        3 => bytes.wrapping_sub(1),
         4 => bytes,
-        5 => std::num::wrapping_add_u32(bytes, 1),
+        5 => bytes.wrapping_add(1),
         _ => compare::BUFFER,
     }
 }

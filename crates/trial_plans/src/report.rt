@@ -1,11 +1,12 @@
 // The lines that are printed.
-use trial_kit::report::say;
+use std::io;
 use trial_kit::tally::Tally;
 use trial_kit::{lines, report};
 
 // The kinds without leftovers, and those with some, by their place among them.
-fn say_clean(k: usize) {
+fn say_clean(rt: &impl Print, k: usize) -> io::Result<()> {
     lines::say_nth(
+        rt,
         b"stated cases\n\
         files of every length\n\
         periods\n\
@@ -37,11 +38,12 @@ fn say_clean(k: usize) {
         marks of 0, 1, and more\n\
         plan values with the mark of an absent domain\n",
         k,
-    );
+    )
 }
 
-fn say_left(k: usize) {
+fn say_left(rt: &impl Print, k: usize) -> io::Result<()> {
     lines::say_nth(
+        rt,
         b"chains in any order, and any bytes off the chain\n\
         one byte off the chain, at each place of the first record there, a middle one and the last\n\
         several leftovers of a byte each\n\
@@ -54,37 +56,36 @@ fn say_left(k: usize) {
         sparse bytes, also off the chain\n\
         records of small fields, also off the chain\n",
         k,
-    );
+    )
 }
 
-fn say_name(kind: u32) {
+fn say_name(rt: &impl Print, kind: u32) -> io::Result<()> {
     if kind < 30 {
-        say_clean(kind as usize);
+        say_clean(rt, kind as usize)
     } else {
-        say_left((kind - 30) as usize);
+        say_left(rt, (kind - 30) as usize)
     }
 }
 
 // What was compared of a kind or of a stated case, after its name.
-pub fn counts_line(t: Tally) {
-    report::counts(t);
-    report::say_number(b", of them with 12: ", t.leftovers);
-    report::differ_line(t);
+pub fn counts_line(rt: &impl Print, t: Tally) -> io::Result<()> {
+    report::counts(rt, t)?;
+    print!(rt; ", of them with 12: {}", t.leftovers)?;
+    report::differ_line(rt, t)
 }
 
-pub fn kind_line(t: Tally, kind: u32) {
-    say_name(kind);
-    counts_line(t);
+pub fn kind_line(rt: &impl Print, t: Tally, kind: u32) -> io::Result<()> {
+    say_name(rt, kind)?;
+    counts_line(rt, t)
 }
 
 // The refusals, the total, and where something differed its first kind and case.
-pub fn last_lines(t: Tally) {
-    report::told_lines(t, &[1, 2, 3, 4, 5, 6, 7, 8, 9, 10, 11, 12, 51]);
+pub fn last_lines(rt: &impl Print, t: Tally) -> io::Result<()> {
+    report::told_lines(rt, t, &[1, 2, 3, 4, 5, 6, 7, 8, 9, 10, 11, 12, 51])?;
     if t.alldiffer != 0 {
-        say(b"first difference: ");
-        say_name(t.firstkind);
-        report::say_number(b", case ", t.firstcase);
-        say(b"\n");
+        print!(rt; "first difference: ")?;
+        say_name(rt, t.firstkind)?;
+        println!(rt; ", case {}", t.firstcase)?;
     }
-    report::total_line(t);
+    report::total_line(rt, t)
 }

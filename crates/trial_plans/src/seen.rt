@@ -2,6 +2,7 @@
 // noticed.
 ghost use Rattle.std.specs.Prelude.{◌<◌};
 
+use std::io;
 use trial_kit::lines::say_nth;
 use trial_kit::tally::{Tally, Verdict};
 use trial_kit::{bytes, counts, tally};
@@ -36,7 +37,7 @@ pub const LEFTOVERS: usize = 191;
 const NONE: usize = 230;
 
 // A case compared: how many records were taken, the count of where the walk ended, and that of its sums.
-#[derive(Drop)]
+#[derive(Clone, Copy)]
 pub struct Outcome {
     pub verdict: Verdict,
     pub records: u32,
@@ -115,8 +116,9 @@ pub fn counted(t: Tally, kind: u32, case: u32, o: Outcome, seen: &mut [u32]) -> 
 }
 
 // The name of a row, or of a count behind them.
-fn say_name(k: usize) {
+fn say_name(rt: &impl Print, k: usize) -> io::Result<()> {
     say_nth(
+        rt,
         b"refused with 4 after 0 to 16 records\n\
         refused with 5 after 0 to 16 records\n\
         refused with 6 after 0 to 16 records\n\
@@ -149,7 +151,7 @@ fn say_name(k: usize) {
         files with a leftover that are refused with 1 to 11\n\
         files of 64 records, accepted and refused with 12, with chains of 0, of 1 and of 16 records\n",
         k,
-    );
+    )
 }
 
 // How many counts stand under a name.
@@ -165,13 +167,12 @@ fn width(name: usize) -> usize {
     }
 }
 
-pub fn lines(seen: &[u32]) {
+pub fn lines(rt: &impl Print, seen: &[u32]) -> io::Result<()> {
     let mut from: usize = 0;
-    let mut name: usize = 0;
-    while name < 31 {
-        say_name(name);
-        counts::say_row(seen, from, width(name));
-        from = std::num::wrapping_add_usize(from, width(name));
-        name += 1;
+    for name in 0..31 {
+        say_name(rt, name)?;
+        counts::say_row(rt, seen, from, width(name))?;
+        from = from.wrapping_add(width(name));
     }
+    Ok(())
 }

@@ -19,6 +19,7 @@
 use super::seen::Outcome;
 use super::{compare, report, seen};
 use model_plans::{Answer, Sums, words};
+use std::io;
 use trial_kit::given::put_in_file;
 use trial_kit::tally::{Tally, Verdict, both};
 use trial_kit::{bytes, files, lines, tally, values};
@@ -28,7 +29,7 @@ const STATED: u32 = 0;
 
 // Where the reader stands: the case's number and where its name begins, the bytes so far of the plan file, and what is due:
 // the period and the words of a plan, and sums.
-#[derive(Drop)]
+#[derive(Clone, Copy)]
 struct Stand {
     case: u32,
     named: usize,
@@ -100,12 +101,7 @@ fn with_size(p: Stand, size: usize) -> Stand {
 // The next case; its name is behind the word.
 fn next_case(p: Stand, at: usize, file: &mut [u8]) -> Stand {
     bytes::fill(file, files::LONGEST, 0, bytes::ZEROS);
-    begun(
-        tally::more(p.case),
-        std::num::wrapping_add_usize(at, 5),
-        0,
-        0,
-    )
+    begun(tally::more(p.case), at.wrapping_add(5), 0, 0)
 }
 
 // The library writes the plan due over the plan file; one that is refused leaves every byte.
@@ -137,7 +133,7 @@ fn reads(p: Stand, a: Answer, given: &[u8], at: usize, offset: usize) -> bool {
     let domains = p.domains;
     let due = Answer {
         number: lines::small(given, at, offset, 2),
-        place: lines::small(given, at, std::num::wrapping_add_usize(offset, 3), 5),
+        place: lines::small(given, at, offset.wrapping_add(3), 5),
         period: p.period,
         domains,
     };
@@ -182,49 +178,50 @@ fn compared(p: Stand, given: &[u8], at: usize, file: &[u8]) -> Outcome {
 }
 
 // The counts of a case are printed before the next begins.
-fn closed(t: Tally, p: Stand, given: &[u8]) -> Tally {
+fn closed(rt: &impl Print, t: Tally, p: Stand, given: &[u8]) -> io::Result<Tally> {
     if p.case > 0 {
-        lines::say_line(given, p.named);
-        report::counts_line(t);
+        lines::say_line(rt, given, p.named)?;
+        report::counts_line(rt, t)?;
     }
-    tally::next_kind(t)
+    Ok(tally::next_kind(t))
 }
 
 // The tally after a line.
 fn tally_after(
+    rt: &impl Print,
     t: Tally,
     p: Stand,
     given: &[u8],
     at: usize,
     file: &[u8],
     seen: &mut [u32],
-) -> Tally {
+) -> io::Result<Tally> {
     let size = bytes::least(p.size, file.len());
     match lines::byte(given, at) {
-        b'c' => closed(t, p, given),
-        b'r' | b'e' | b'w' | b'v' => seen::counted(
+        b'c' => closed(rt, t, p, given),
+        b'r' | b'e' | b'w' | b'v' => Ok(seen::counted(
             t,
             STATED,
             p.case,
             compared(p, given, at, &file[0..size]),
             seen,
-        ),
-        _ => t,
+        )),
+        _ => Ok(t),
     }
 }
 
 // All cases of the text. Its last line begins a case without a name, so that the one before is printed.
-pub fn cases(before: Tally, given: &[u8], seen: &mut [u32]) -> Tally {
+pub fn cases(rt: &impl Print, before: Tally, given: &[u8], seen: &mut [u32]) -> io::Result<Tally> {
     let mut file = [0u8; 1040];
     let mut t = before;
     let mut p = begun(0, 0, 0, 0);
     let mut at: usize = 0;
     while at < given.len() {
-        let tally = tally_after(t, p, given, at, &file, seen);
+        let tally = tally_after(rt, t, p, given, at, &file, seen)?;
         let stand = stand_after(p, given, at, &mut file);
         t = tally;
         p = stand;
         at = lines::after_line(given, at);
     }
-    t
+    Ok(t)
 }

@@ -8,7 +8,7 @@ use trial_kit::bytes::least;
 use trial_kit::tally::both;
 
 // The model's cause, and whether the library does all as the model does.
-#[derive(Drop)]
+#[derive(Clone, Copy)]
 pub struct Reply {
     pub cause: Cause,
     pub same: bool,
@@ -53,8 +53,8 @@ fn library_agrees(
     let one = library_writes(file, ask, script, &mut whole, size);
     let two = parts_write(file, ask, script, &mut parted, size, p);
     both(
-        both(one == bytes, check::same(&whole, text)),
-        both(two == bytes, check::same(&parted, text)),
+        both(one == bytes, &whole == text),
+        both(two == bytes, &parted == text),
     )
 }
 

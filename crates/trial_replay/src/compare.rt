@@ -8,7 +8,7 @@ use trial_kit::tally::{Verdict, both};
 use trial_scripts::cases::BUFFER;
 
 // What the model tells, the refusal and the periods closed, and whether the library does all as the model does.
-#[derive(Drop)]
+#[derive(Clone, Copy)]
 pub struct Outcome {
     pub number: u32,
     pub periods: u32,
@@ -49,7 +49,7 @@ fn library_agrees(
 ) -> bool {
     let mut out = [filled; 16384];
     let written = library_writes(file, script, &mut out, size);
-    both(written == bytes, check::same(&out, text))
+    both(written == bytes, out == *text)
 }
 
 // The same, with the script in parts.
@@ -64,7 +64,7 @@ fn parts_agree(
 ) -> bool {
     let mut out = [filled; 16384];
     let written = parts_write(file, script, &mut out, size, p);
-    both(written == bytes, check::same(&out, text))
+    both(written == bytes, out == *text)
 }
 
 // The whole output, of the script whole and in parts, into equal buffers of which the first bytes are lent.
@@ -112,15 +112,12 @@ fn same_line(
     before: &[u8; 17],
 ) -> bool {
     match l {
-        Line::Slot => both(m.form == model_replay::SLOT, check::same(offers, own)),
+        Line::Slot => both(m.form == model_replay::SLOT, offers == own),
         Line::Yield { domain, count } => both(
-            both(model_replay::is_yield(m.form), check::same(offers, before)),
+            both(model_replay::is_yield(m.form), offers == before),
             both(domain == m.domain, count == m.k),
         ),
-        Line::Bad(number) => both(
-            both(number == 41, check::same(offers, before)),
-            !taken(m.form),
-        ),
+        Line::Bad(number) => both(both(number == 41, offers == before), !taken(m.form)),
     }
 }
 

@@ -1,12 +1,14 @@
 // Compares the texts of whole replays and of answers to questions, the library's with the model's, on stated cases and on plan
 // files, scripts and files `ask` that are fixed by seeds, and prints what was compared.
 #![tactic(auto)]
+
 use asking::Reply;
 use compare::Outcome;
 use model_calls::Cause;
 use parts::Parts;
+use std::io;
 use trial_kit::tally::Tally;
-use trial_kit::{bytes, draw, tally};
+use trial_kit::{bytes, draw, read_full, tally};
 use trial_scripts::cases::Case;
 use trial_scripts::{asks, cases, files, scripts};
 
@@ -15,6 +17,9 @@ mod compare;
 mod parts;
 mod report;
 mod stated;
+
+// The most bytes of the text that states cases.
+const GIVEN: usize = 65536;
 
 fn parts_of(c: Case) -> Parts {
     if c.kind == cases::PLACES {
@@ -54,7 +59,7 @@ fn asked(file: &[u8], script: &[u8], words: &[u64], c: Case) -> Reply {
 fn count(causes: &mut [u64], c: Cause) {
     let k = model_calls::sort(c);
     if k < causes.len() {
-        causes[k] = std::num::wrapping_add_u64(causes[k], 1);
+        causes[k] = causes[k].wrapping_add(1);
     }
 }
 
@@ -63,14 +68,12 @@ fn questions(file: &[u8], script: &[u8], words: &[u64], causes: &mut [u64], c: C
     let mut same = true;
     let mut number: u32 = 0;
     let most = asks::count(c.kind);
-    let mut k: u32 = 0;
-    while k < most {
+    for k in 0..most {
         let a = asked(file, script, words, asks::question(c, k));
         let told = a.cause;
         count(causes, told);
         number = told.number;
         same = tally::both(same, a.same);
-        k += 1;
     }
     Outcome {
         number,
@@ -101,7 +104,7 @@ fn try_case(script: &mut [u8], words: &mut [u64], causes: &mut [u64], c: Case) -
 }
 
 // What was compared of a kind so far, and the periods closed.
-#[derive(Drop)]
+#[derive(Clone, Copy)]
 struct Kind {
     tally: Tally,
     periods: u32,
@@ -112,58 +115,61 @@ fn with_case(k: Kind, script: &mut [u8], words: &mut [u64], causes: &mut [u64], 
     let t = k.tally;
     Kind {
         tally: tally::counted(t, c.kind, c.case, compare::verdict(o)),
-        periods: std::num::wrapping_add_u32(k.periods, o.periods),
+        periods: k.periods.wrapping_add(o.periods),
     }
 }
 
 fn try_kind(
+    rt: &impl Print,
     names: &[u8],
     before: Tally,
     script: &mut [u8],
     causes: &mut [u64],
     kind: u32,
-) -> Tally {
+) -> io::Result<Tally> {
     let mut words = [0u64; 483];
     let mut k = Kind {
         tally: tally::next_kind(before),
         periods: 0,
     };
     let most = cases::runs(kind);
-    let mut case: u32 = 0;
-    while case < most {
+    for case in 0..most {
         let next = with_case(k, script, &mut words, causes, cases::of(kind, case));
         k = next;
-        case += 1;
     }
     let t = k.tally;
-    report::kind_line(names, t, kind, k.periods);
-    report::verdicts_line(&words, kind);
-    t
+    report::kind_line(rt, names, t, kind, k.periods)?;
+    report::verdicts_line(rt, &words, kind)?;
+    Ok(t)
 }
 
-fn try_kinds(names: &[u8], before: Tally, script: &mut [u8], causes: &mut [u64]) -> Tally {
+fn try_kinds(
+    rt: &impl Print,
+    names: &[u8],
+    before: Tally,
+    script: &mut [u8],
+    causes: &mut [u64],
+) -> io::Result<Tally> {
     let mut t = before;
-    let mut kind: u32 = 0;
-    while kind < cases::KINDS {
-        let next = try_kind(names, t, script, causes, kind);
+    for kind in 0..cases::KINDS {
+        let next = try_kind(rt, names, t, script, causes, kind)?;
         t = next;
-        kind += 1;
     }
-    t
+    Ok(t)
 }
 
 // The stated cases and those of all kinds, given the text that states them and names the kinds.
-fn try_all(given: &[u8]) {
+fn try_all(rt: &impl Print, given: &[u8]) -> io::Result<()> {
     let mut script = [0u8; 131072];
-    let before = stated::cases(tally::start(), given, &mut script);
+    let before = stated::cases(rt, tally::start(), given, &mut script)?;
     let mut causes = [0u64; 23];
-    let t = try_kinds(given, before, &mut script, &mut causes);
-    report::causes_line(&causes);
-    report::last_lines(given, t);
+    let t = try_kinds(rt, given, before, &mut script, &mut causes)?;
+    report::causes_line(rt, &causes)?;
+    report::last_lines(rt, given, t)
 }
 
-fn main() {
-    let mut given = io::large_buffer();
-    let bytes = io::read_full(0, &mut given);
-    try_all(&given[..bytes]);
+fn main(rt: HostRuntime) -> io::Result<()> {
+    let mut given = [0u8; GIVEN];
+    let bytes = read_full(&mut rt.stdin(), &mut given)?;
+    try_all(&rt, &given[..bytes])
 }

@@ -8,7 +8,7 @@ use question::Search;
 use script::Run;
 
 // One less than the bytes of the first part, and than those that each other part is longer.
-#[derive(Drop)]
+#[derive(Clone, Copy)]
 pub struct Parts {
     pub first: u8,
     pub step: u8,

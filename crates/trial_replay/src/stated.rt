@@ -21,6 +21,7 @@
 use super::compare::Outcome;
 use super::{asking, compare, report};
 use model_replay::text;
+use std::io;
 use trial_kit::given::put_in_file;
 use trial_kit::tally::Tally;
 use trial_kit::{bytes, draw, lines, tally};
@@ -31,7 +32,7 @@ const STATED: u32 = 44;
 
 // The bytes so far of the plan file, the script, the file `ask` and the text due, where the case's name stands, its number, and the
 // periods that its replays closed.
-#[derive(Drop)]
+#[derive(Clone, Copy)]
 struct Stand {
     file: usize,
     script: usize,
@@ -45,7 +46,7 @@ struct Stand {
 // The line behind its first two bytes.
 fn put_rest(to: &mut [u8], at: usize, given: &[u8], from: usize) -> usize {
     let end = lines::line_end(given, from);
-    put_part(to, at, given, std::num::wrapping_add_usize(from, 2), end)
+    put_part(to, at, given, from.wrapping_add(2), end)
 }
 
 fn put_line(to: &mut [u8], at: usize, given: &[u8], from: usize) -> usize {
@@ -57,10 +58,8 @@ fn put_line(to: &mut [u8], at: usize, given: &[u8], from: usize) -> usize {
 fn put_times(script: &mut [u8], size: usize, given: &[u8], from: usize) -> usize {
     let most = lines::small(given, from, 2, 4);
     let mut at = size;
-    let mut k: u32 = 0;
-    while k < most {
-        at = put_line(script, at, given, std::num::wrapping_add_usize(from, 5));
-        k += 1;
+    for k in 0..most {
+        at = put_line(script, at, given, from.wrapping_add(5));
     }
     at
 }
@@ -124,7 +123,7 @@ fn after_run(p: Stand, periods: u32, script: usize) -> Stand {
     after.script = script;
     after.ask = 0;
     after.due = 0;
-    after.periods = std::num::wrapping_add_u32(p.periods, periods);
+    after.periods = p.periods.wrapping_add(periods);
     after
 }
 
@@ -135,33 +134,41 @@ fn next_case(p: Stand, at: usize) -> Stand {
         script: 0,
         ask: 0,
         due: 0,
-        named: std::num::wrapping_add_usize(at, 5),
+        named: at.wrapping_add(5),
         case: tally::more(p.case),
         periods: 0,
     }
 }
 
 // The tally and the stand after a line.
-#[derive(Drop)]
+#[derive(Clone, Copy)]
 struct Both {
     tally: Tally,
     stand: Stand,
 }
 
 // The counts of the case at hand are printed, and the next begins with zeros.
-fn case_line(t: Tally, p: Stand, given: &[u8], at: usize, file: &mut [u8]) -> Both {
+fn case_line(
+    rt: &impl Print,
+    t: Tally,
+    p: Stand,
+    given: &[u8],
+    at: usize,
+    file: &mut [u8],
+) -> io::Result<Both> {
     bytes::fill(file, 1040, 0, bytes::ZEROS);
     if p.case > 0 {
-        lines::say_line(given, p.named);
-        report::counts_line(t, p.periods);
+        lines::say_line(rt, given, p.named)?;
+        report::counts_line(rt, t, p.periods)?;
     }
-    Both {
+    Ok(Both {
         tally: tally::next_kind(t),
         stand: next_case(p, at),
-    }
+    })
 }
 
 fn line(
+    rt: &impl Print,
     b: Both,
     given: &[u8],
     at: usize,
@@ -169,17 +176,17 @@ fn line(
     script: &mut [u8],
     ask: &mut [u8],
     due: &mut [u8],
-) -> Both {
+) -> io::Result<Both> {
     let t = b.tally;
     let p = b.stand;
     match lines::byte(given, at) {
-        b'c' => case_line(t, p, given, at, file),
-        b'r' => run_line(t, p, replayed(p, file, script, due), 0),
-        b'w' => run_line(t, p, asked(p, file, script, ask, due), p.script),
-        _ => Both {
+        b'c' => case_line(rt, t, p, given, at, file),
+        b'r' => Ok(run_line(t, p, replayed(p, file, script, due), 0)),
+        b'w' => Ok(run_line(t, p, asked(p, file, script, ask, due), p.script)),
+        _ => Ok(Both {
             tally: t,
             stand: with_line(p, given, at, file, script, ask, due),
-        },
+        }),
     }
 }
 
@@ -192,7 +199,7 @@ fn run_line(t: Tally, p: Stand, o: Outcome, script: usize) -> Both {
 }
 
 // All cases of the text. Its last line begins a case without a name, so that the one before is printed.
-pub fn cases(before: Tally, given: &[u8], script: &mut [u8]) -> Tally {
+pub fn cases(rt: &impl Print, before: Tally, given: &[u8], script: &mut [u8]) -> io::Result<Tally> {
     let mut file = [0u8; 1040];
     let mut ask = [0u8; 64];
     let mut due = [0u8; 4096];
@@ -210,9 +217,9 @@ pub fn cases(before: Tally, given: &[u8], script: &mut [u8]) -> Tally {
     };
     let mut at: usize = 0;
     while at < given.len() {
-        let next = line(b, given, at, &mut file, script, &mut ask, &mut due);
+        let next = line(rt, b, given, at, &mut file, script, &mut ask, &mut due)?;
         b = next;
         at = lines::after_line(given, at);
     }
-    b.tally
+    Ok(b.tally)
 }
