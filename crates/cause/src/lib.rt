@@ -3,6 +3,7 @@
 // explain(state, offers, number): the verdict of a number in the slot that a state and offers decide, and its cause, for any state,
 // bytes and number; or 30, 34, 31, 32, 33 or 62.
 #![tactic(auto)]
+
 mod cause;
 mod explaining;
 
