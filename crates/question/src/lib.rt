@@ -5,6 +5,7 @@
 // start, seek and finish are the same for a script that comes part by part: seek and finish require what start and seek ensure of the
 // search that they answer. goes_on tells whether more of the script is wanted, and from_start puts a search at the front of a part.
 #![tactic(auto)]
+
 mod answer;
 mod answering;
 mod ask;
