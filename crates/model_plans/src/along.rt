@@ -4,7 +4,7 @@ ghost use Rattle.std.specs.Prelude.{◌<◌, ◌≤◌};
 use super::{chain, record};
 
 // How many records the walk took, and the sum of both reservations after each of them in the chain's order, zeros behind.
-#[derive(Drop)]
+#[derive(Clone, Copy)]
 pub struct Sums {
     pub records: u32,
     pub told: [u32; 16],

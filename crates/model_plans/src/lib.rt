@@ -2,6 +2,7 @@
 // of domain n (1 to 16) stand at 6 * (n - 1): present (0 or 1), reservation Q, reclaim cap R, writeback cap W, the writeback
 // reservation, here called V, and its mark (0 or 1).
 #![tactic(auto)]
+
 mod along;
 mod chain;
 mod layout;
@@ -11,7 +12,7 @@ pub mod words;
 pub use along::Sums;
 
 // What reading a file tells: number 0 where it is accepted; on a refusal the period and all words are 0.
-#[derive(Drop)]
+#[derive(Clone, Copy)]
 pub struct Answer {
     pub number: u32,
     pub place: u32,
@@ -20,7 +21,7 @@ pub struct Answer {
 }
 
 // What checking or writing a plan held as words tells; a refusal has 0 bytes.
-#[derive(Drop)]
+#[derive(Clone, Copy)]
 pub struct Told {
     pub number: u32,
     pub place: u32,

@@ -63,7 +63,7 @@ pub fn wider(x: u32) -> u64
 }
 
 // The six words of a domain.
-#[derive(Drop)]
+#[derive(Clone, Copy)]
 struct Six {
     present: u32,
     q: u32,
@@ -91,7 +91,7 @@ fn bad(period: u32, d: Six) -> bool {
 
 // What the sixteen domains come to: how many are present, the sum of both reservations by plain addition, the lowest domain
 // whose numbers are refused, or 0, and the lowest whose V is above its W, or 0.
-#[derive(Drop)]
+#[derive(Clone, Copy)]
 pub struct Totals {
     pub present: u32,
     pub reservations: u64,
