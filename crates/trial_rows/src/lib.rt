@@ -2,6 +2,7 @@
 // plan, it passed the rules and was not granted: verdict 2. With n domains planned no row is above n (Point 8 of document 02).
 // Rows lie in 344 lent words: those of one list, and behind them what was counted in all lists, last what was seen of turns.
 #![tactic(auto)]
+
 ghost use Rattle.std.specs.Prelude.{◌<◌, ◌≤◌};
 
 pub mod turns;
