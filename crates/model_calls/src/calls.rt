@@ -3,7 +3,7 @@ use super::{cells, forecast, sums, verdict, waiting};
 
 // What a slot call tells beside verdicts and counts: its refusal, or 0, and the numbers asked before the one granted, 0 where
 // it is refused.
-#[derive(Drop)]
+#[derive(Clone, Copy)]
 pub struct Decision {
     pub number: u32,
     pub steps: u32,

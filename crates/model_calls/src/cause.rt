@@ -13,7 +13,7 @@ pub const NEITHER: u8 = 3;
 
 // The refusal, or 0; the verdict; what was offered, 0 by best effort, 1 an access and 2 a writeback of a domain; what the grant is
 // on; and the figures told, the first of which may be below zero.
-#[derive(Drop)]
+#[derive(Clone, Copy)]
 pub struct Cause {
     pub number: u32,
     pub verdict: u8,

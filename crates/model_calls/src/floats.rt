@@ -3,7 +3,7 @@ pub const NUMBER: u64 = 1;
 
 pub const NAN: u64 = 2;
 
-#[derive(Drop)]
+#[derive(Clone, Copy)]
 pub struct Sorted {
     pub kind: u64,
     pub bits: u64,

@@ -16,7 +16,7 @@ const ONCLAIM: usize = 3;
 // What an entry showed: whether it completed a period, how many domains with a reservation above 0 kept asking through
 // that period, how many of them had both reservations above 0, how many had yielded by forecast, and how many sentences of
 // demand 3 did not hold.
-#[derive(Drop)]
+#[derive(Clone, Copy)]
 pub struct Entry {
     pub complete: bool,
     pub asked: u32,

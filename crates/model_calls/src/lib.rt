@@ -1,6 +1,7 @@
 // A second implementation of the regulator and of the causes of verdicts, made plain and slow to compare the library with, and
 // the ledger. A state and the ledger's page are 476 words, counts 238, whose places `cells` states.
 #![tactic(auto)]
+
 mod calls;
 mod cause;
 pub mod cells;
