@@ -14,7 +14,7 @@ pub const RESCUE: u32 = 3;
 
 // An edit that is not refused: the record dropped or taken, the one whose link changes, how many records are on the chain, or are
 // left there by a rescue, and the domain added.
-#[derive(Drop)]
+#[derive(Clone, Copy)]
 pub struct Made {
     pub what: u32,
     pub one: u32,

@@ -1,6 +1,7 @@
 // A second implementation of the edits of a plan file, made plain and slow to compare the library with: what an edit leaves is
 // told byte by byte from a copy of the file as it was.
 #![tactic(auto)]
+
 pub mod adding;
 mod after;
 pub mod chain;
@@ -9,7 +10,7 @@ mod rescuing;
 use model_plans::{Answer, record};
 
 // The domain to add.
-#[derive(Drop)]
+#[derive(Clone, Copy)]
 pub struct Wanted {
     pub number: u64,
     pub q: u64,
@@ -20,7 +21,7 @@ pub struct Wanted {
 }
 
 // What an edit tells: the refusal, or 0, its place, and how many records a rescue left on the chain, 0 for the other edits.
-#[derive(Drop)]
+#[derive(Clone, Copy)]
 pub struct Told {
     pub number: u32,
     pub place: u32,
