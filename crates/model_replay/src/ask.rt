@@ -6,7 +6,7 @@ use super::form;
 pub const WHOLE: u32 = 13;
 
 // The form, and the numbers so far.
-#[derive(Drop)]
+#[derive(Clone, Copy)]
 pub struct Ask {
     pub form: u32,
     pub slot: u64,

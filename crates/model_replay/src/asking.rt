@@ -7,7 +7,7 @@ use model_plans::words;
 
 // The bytes of the text in the buffer, and the cause; its number is the refusal of the file `ask`, of the plan or of the
 // question.
-#[derive(Drop)]
+#[derive(Clone, Copy)]
 pub struct Answered {
     pub bytes: usize,
     pub cause: Cause,

@@ -7,7 +7,7 @@ pub const SLOT: u32 = 19;
 pub const NEITHER: u32 = 29;
 
 // The form, and the numbers of a yield line so far.
-#[derive(Drop)]
+#[derive(Clone, Copy)]
 pub struct Line {
     pub form: u32,
     pub domain: u64,

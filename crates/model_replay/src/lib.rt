@@ -1,6 +1,7 @@
 // A second implementation of the replay and of questions, made plain and slow to compare the library with: a line and the file
 // `ask` judged byte by byte.
 #![tactic(auto)]
+
 mod ask;
 mod asking;
 mod form;

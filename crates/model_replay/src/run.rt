@@ -5,7 +5,7 @@ use model_calls::cells;
 use model_plans::words;
 
 // How a replay ended: the bytes of its text in the buffer, the refusal of its plan or line, and the periods closed.
-#[derive(Drop)]
+#[derive(Clone, Copy)]
 pub struct Ended {
     pub bytes: usize,
     pub number: u32,
@@ -13,7 +13,7 @@ pub struct Ended {
 }
 
 // Where a script stands: the bytes printed, the number of the line at hand, what was read of it, and the refusal of it.
-#[derive(Drop)]
+#[derive(Clone, Copy)]
 pub struct At {
     pub bytes: usize,
     pub row: u64,
