@@ -12,7 +12,7 @@ pub const COMPACT: u32 = 2;
 pub const RESCUE: u32 = 3;
 
 // An edit; the number alone counts where a domain is dropped, and nothing where the file is compacted or rescued.
-#[derive(Drop)]
+#[derive(Clone, Copy)]
 pub struct Call {
     pub what: u32,
     pub domain: NewDomain,

@@ -25,7 +25,7 @@ pub const BUFFER: usize = 16384;
 
 // A case and the number drawn for it; the run of cases that share a plan and its first lines, the number drawn for these, and
 // the plan's style.
-#[derive(Drop)]
+#[derive(Clone, Copy)]
 pub struct Case {
     pub kind: u32,
     pub case: u32,

@@ -6,7 +6,7 @@ use trial_kit::draw;
 use trial_kit::tally::both;
 
 // How often, out of 16, there are offers, writebacks and yields.
-#[derive(Drop)]
+#[derive(Clone, Copy)]
 pub struct Weights {
     pub offers: u32,
     pub writebacks: u32,
@@ -15,7 +15,7 @@ pub struct Weights {
 
 // The numbers of a yield line, and the least digits that each is put with. In a file `ask` the slot stands in the place of the
 // domain, and the offering number in that of k.
-#[derive(Drop)]
+#[derive(Clone, Copy)]
 pub struct Amount {
     pub domain: u32,
     pub domaindigits: u32,

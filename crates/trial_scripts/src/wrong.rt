@@ -5,7 +5,7 @@ use model_replay::text;
 use trial_kit::{bytes, draw};
 
 // An edit of a line: the byte at a place is left out (0), has another put in before it (1), or is put to another (2).
-#[derive(Drop)]
+#[derive(Clone, Copy)]
 pub struct Edit {
     pub way: u32,
     pub place: usize,

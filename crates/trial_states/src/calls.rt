@@ -11,7 +11,7 @@ pub const OPEN: u8 = 3;
 
 // A slot call has so many of the offers, and so many bytes lent, which hold `filled` before, and in `domain` the number whose
 // verdict is to be explained; a yield has a domain and k.
-#[derive(Drop)]
+#[derive(Clone, Copy)]
 pub struct Call {
     pub what: u8,
     pub offers: [u8; 18],

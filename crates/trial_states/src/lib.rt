@@ -1,5 +1,6 @@
 // The calls and the changed states that trial_calls compares the library and the model on, fixed by seeds.
 #![tactic(auto)]
+
 pub mod calls;
 pub mod changes;
 pub mod draws;

@@ -14,7 +14,7 @@ pub const KIND: u32 = 33;
 const BLOCKED: u32 = 2;
 
 // A way, a turn, the size of a set, and the number drawn for all else.
-#[derive(Drop)]
+#[derive(Clone, Copy)]
 pub struct Passing {
     pub way: u32,
     pub turn: usize,

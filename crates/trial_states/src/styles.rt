@@ -4,7 +4,7 @@ use trial_kit::styles;
 
 // Weights are out of 16, that of plans handed in out of 64. Offers of weight 0 are none at all, faults above 16 two at once.
 // Edits are how many of the plans handed in are the plan in force, edited.
-#[derive(Drop)]
+#[derive(Clone, Copy)]
 pub struct Style {
     pub plans: u32,
     pub runs: u32,
