@@ -57,10 +57,8 @@ fn standing(position: u32, records: u32) -> usize
 // How many records of the chain are below a record.
 fn below(file: &[u8], records: u32, index: u32) -> u32 {
     let mut count: u32 = 0;
-    let mut k: u32 = 0;
-    while k < records {
-        k += 1;
-        count += words::one_if(chain::nth(file, k) < index);
+    for k in 0..records {
+        count += words::one_if(chain::nth(file, k + 1) < index);
     }
     count
 }

@@ -200,7 +200,7 @@ fn compared(
         o.place == small(given, at, 2),
         is_kept_due(given, at, c.what, o.kept),
     );
-    let same = both(both(v.same, told), file == due);
+    let same = both(both(v.same, told), &*file == due);
     copy(file, due);
     Verdict {
         number: v.number,

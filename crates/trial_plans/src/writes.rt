@@ -25,9 +25,8 @@ fn standing(v: u32, w: u32, period: u32) -> usize
 // Counts those of the planned domains, and tells the sum of Q.
 fn count_domains(domains: [u32; 96], period: u32, seen: &mut [u32]) -> u64 {
     let mut sum: u64 = 0;
-    let mut n: u32 = 0;
-    while n < 16 {
-        n += 1;
+    for k in 0..16 {
+        let n = k + 1;
         let v = words::word(domains, n, 4);
         let at = standing(v, words::word(domains, n, 3), period);
         counts::raise(seen, seen::WRITES + at, words::word(domains, n, 0));
@@ -38,14 +37,12 @@ fn count_domains(domains: [u32; 96], period: u32, seen: &mut [u32]) -> u64 {
 
 // The lowest domain whose writeback reservation is above W, or 17.
 fn first_above(domains: [u32; 96]) -> u32 {
-    let mut n: u32 = 1;
-    while n < 17 {
+    for n in 1..17 {
         if words::word(domains, n, 4) > words::word(domains, n, 3) {
             return n;
         }
-        n += 1;
     }
-    n
+    17
 }
 
 // Whether a refusal is one that another reading of the rules would not tell.

@@ -1,0 +1,6 @@
+-- Each turn goes to a later line.
+use Rattle.std.proofs.Common.{length, ◌-◌}
+use Rattle.trial_replay.proofs.report.name_of.Given as goal
+
+abbrev pub decreases-loop-at : goal.decreases-loop-at
+decreases-loop-at l = length l.initial.given - l.at
