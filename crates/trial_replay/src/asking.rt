@@ -1,7 +1,7 @@
 // The library and the model on one question.
 use super::compare::Outcome;
-use super::parts;
-use super::parts::Parts;
+use super::pieces;
+use super::pieces::Parts;
 use model_calls::Cause;
 use model_replay::Answered;
 use trial_kit::bytes::least;
@@ -29,7 +29,7 @@ fn parts_write(
     p: Parts,
 ) -> usize {
     let lent = least(size, out.len());
-    parts::asked(file, ask, script, &mut out[0..lent], p)
+    pieces::asked(file, ask, script, &mut out[0..lent], p)
 }
 
 fn model_writes(file: &[u8], ask: &[u8], script: &[u8], out: &mut [u8], size: usize) -> Answered {
@@ -73,7 +73,7 @@ pub fn asked(file: &[u8], ask: &[u8], script: &[u8], size: usize, filled: u8, p:
 pub fn asked_as(file: &[u8], ask: &[u8], script: &[u8], due: &[u8], filled: u8) -> Outcome {
     let mut text = [filled; 64];
     let bytes = model_replay::text::put_text(&mut text, 0, due);
-    let p = parts::drawn(filled);
+    let p = pieces::drawn(filled);
     let a = asked(file, ask, script, 64, filled, p);
     let told = a.cause;
     Outcome {

@@ -1,6 +1,6 @@
 // The library and the model on one replay, or on one line.
-use super::parts;
-use super::parts::Parts;
+use super::pieces;
+use super::pieces::Parts;
 use model_replay::Ended;
 use script::Line;
 use trial_kit::bytes::least;
@@ -30,7 +30,7 @@ fn library_writes(file: &[u8], script: &[u8], out: &mut [u8], size: usize) -> us
 // The same, with the script in parts.
 fn parts_write(file: &[u8], script: &[u8], out: &mut [u8], size: usize, p: Parts) -> usize {
     let lent = least(size, out.len());
-    parts::replayed(file, script, &mut out[0..lent], p)
+    pieces::replayed(file, script, &mut out[0..lent], p)
 }
 
 fn model_writes(file: &[u8], script: &[u8], out: &mut [u8], size: usize) -> Ended {
@@ -85,7 +85,7 @@ pub fn replayed(file: &[u8], script: &[u8], size: usize, filled: u8, p: Parts) -
 pub fn replayed_as(file: &[u8], script: &[u8], due: &[u8], filled: u8) -> Outcome {
     let mut text = [filled; 16384];
     let bytes = model_replay::text::put_text(&mut text, 0, due);
-    let o = replayed(file, script, BUFFER, filled, parts::drawn(filled));
+    let o = replayed(file, script, BUFFER, filled, pieces::drawn(filled));
     let as_due = library_agrees(file, script, BUFFER, filled, &text, bytes);
     Outcome {
         number: o.number,

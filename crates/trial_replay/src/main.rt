@@ -5,7 +5,7 @@
 use asking::Reply;
 use compare::Outcome;
 use model_calls::Cause;
-use parts::Parts;
+use pieces::Parts;
 use std::io;
 use trial_kit::tally::Tally;
 use trial_kit::{bytes, draw, read_full, tally};
@@ -14,7 +14,7 @@ use trial_scripts::{asks, cases, files, scripts};
 
 mod asking;
 mod compare;
-mod parts;
+mod pieces;
 mod report;
 mod stated;
 
@@ -23,9 +23,9 @@ const GIVEN: usize = 65536;
 
 fn parts_of(c: Case) -> Parts {
     if c.kind == cases::PLACES {
-        parts::at_place(c.case)
+        pieces::at_place(c.case)
     } else {
-        parts::drawn(draw::low(c.seed))
+        pieces::drawn(draw::low(c.seed))
     }
 }
 
