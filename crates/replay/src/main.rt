@@ -144,7 +144,7 @@ fn conclude<W: Write>(s: Stream, text: &[u8], sink: &mut W, out: &mut [u8]) -> b
 
 fn main(rt: HostRuntime) {
     let mut plan = [0u8; 1040];
-    let n = parts::read_file(&rt, "plan", &mut plan);
+    let n = parts::read_file(&rt, b"plan", &mut plan);
     let mut text = [0u8; BUFFER];
     let mut out = [0u8; BUFFER];
     let run = script::start(&plan[..n], &mut out);

@@ -89,9 +89,9 @@ fn tell<W: Write>(s: Stream, sink: &mut W) -> bool
 
 fn main(rt: HostRuntime) {
     let mut plan = [0u8; 1040];
-    let plan_length = parts::read_file(&rt, "plan", &mut plan);
+    let plan_length = parts::read_file(&rt, b"plan", &mut plan);
     let mut ask = [0u8; 16];
-    let ask_length = parts::read_file(&rt, "ask", &mut ask);
+    let ask_length = parts::read_file(&rt, b"ask", &mut ask);
     let search = question::start(&plan[..plan_length], &ask[..ask_length]);
     let mut text = [0u8; BUFFER];
     let s = read_script(search, &mut rt.stdin(), &mut text);
