@@ -1,6 +1,6 @@
 -- Bytes that are moved to the front of a buffer, one after the other.
 -- Assumes nothing.
-use Rattle.std.proofs.Common.{◌≡◌, sym, ap, ◌∙◌, ℕ, suc, ◌+◌, ◌-◌, ◌≤◌, ◌<◌, List, [], ◌∷◌, ◌++◌, length, get_or, take, drop, set, length-set, length-drop, arith}
+use Rattle.std.proofs.Common.{◌≡◌, refl, sym, ap, ◌∙◌, ℕ, suc, ◌+◌, ◌-◌, ◌≤◌, ◌<◌, List, [], ◌∷◌, ◌++◌, length, get_or, take, drop, set, length-set, length-drop, arith}
 use Rattle.std.proofs.Math.Seq.{take-suc, take-suc-set}
 use Rattle.std.proofs.lemmas.List.{drop-set-lt, drop-drop, get_or-drop}
 
@@ -9,6 +9,11 @@ pub record Moving (was : List ℕ) (from i : ℕ) (b : List ℕ) : Type 0 where
   pub long : length b ≡ length was
   pub ahead : drop i b ≡ drop i was
   pub done : take (i - from) b ≡ take (i - from) (drop from was)
+
+pub moving_none : (was : List ℕ) (from : ℕ) → Moving was from from was
+moving_none was from =
+    let z : from - from ≡ 0 = omega arith in
+    record { long = refl; ahead = refl; done = rw z refl }
 
 -- the byte at i is still the one that stood there
 still_there : (was : List ℕ) (i : ℕ) (b : List ℕ) → drop i b ≡ drop i was → get_or b i 0 ≡ get_or was i 0
