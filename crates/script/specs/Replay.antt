@@ -52,7 +52,7 @@ lines_text s L (line ∷ lines) last =
     cond (eqb d.refused 0) (d.prints ++ lines_text d.state (L + 1) lines last) (line_refused_text L d.refused)
 
 -- All of the output. "A refused plan prints only `plan refused N at K`." (A plan that reading accepts is not refused by opening:
--- `ReadIsAccepted` of plan/specs/round_trip.antt.)
+-- `ReadIsAccepted` of plan/specs/RoundTrip.antt.)
 unfoldable pub replay_text : List ℕ → List ℕ → List ℕ
 replay_text plan script =
     let r = read_plan plan in

@@ -18,8 +18,8 @@ loop-i-preserved c =
     let v = c.loop-i.invariant in
     (omega arith, omega (arith, v.1), search rules, filled_more 0 _ _ _ _ _ _ v.1 refl v.3 c.with_bit-m.ensures)
 
-pub returns-clause-bits : goal.returns-clause-bits
-returns-clause-bits c =
+pub returns : goal.returns
+returns c =
     let o = c.args.offers.now in
     let kind = c.args.kind in
     let m = c.loop-i.m in
@@ -29,17 +29,4 @@ returns-clause-bits c =
     let out = offer_out o kind c.requires.offers_len c.requires.kind_nonzero in
     let all : ((n : ℕ) → bit m n ≡ eqb (nth o n) kind) = λ n.
     ap (bit m) (sym (add-zero n)) ∙ filled_all 0 (λ (k : ℕ). eqb (nth o k) kind) m i 17 e out v.3 n in
-    all
-
-pub returns-clause-small : goal.returns-clause-small
-returns-clause-small c =
-    let o = c.args.offers.now in
-    let kind = c.args.kind in
-    let m = c.loop-i.m in
-    let i = c.loop-i.i in
-    let v = c.loop-i.invariant in
-    let e : i ≡ 17 = omega (arith, v.0, c.loop-i-test.false) in
-    let out = offer_out o kind c.requires.offers_len c.requires.kind_nonzero in
-    let all : ((n : ℕ) → bit m n ≡ eqb (nth o n) kind) = λ n.
-    ap (bit m) (sym (add-zero n)) ∙ filled_all 0 (λ (k : ℕ). eqb (nth o k) kind) m i 17 e out v.3 n in
-    bits_small 17 32 m v.2 (λ n h. all n ∙ out n h)
+    record { bits = all; small = bits_small 17 32 m v.2 (λ n h. all n ∙ out n h) }

@@ -14,33 +14,20 @@ returns-then-passing-eq0 c =
     (sym (none_is c.args.passing c.args.turn c.requires.turn_bound c.requires.passing_bound c.if-passing-eq0.true))
     (sym (hit _ _ _ (eq-eqb _ 17 (none_is c.args.passing c.args.turn c.requires.turn_bound c.requires.passing_bound c.if-passing-eq0.true))))
 
-pub overflow_add-result : goal.overflow_add-result
-overflow_add-result c =
-    let told : Chosen c.args.passing c.args.turn c.requires.turn_bound
-    c.requires.passing_bound (count_trailing_zeros 32 c.first_mask-number.result) c.round.result =
+-- the number and the steps as the code has them
+told : (c : goal.After-round)
+    → Chosen c.args.passing c.args.turn c.requires.turn_bound c.requires.passing_bound (count_trailing_zeros 32 c.first_mask-number.result) c.round.result
+told c =
     let m = c.args.passing in
     let t = c.args.turn in
-    chosen m t c.requires.turn_bound c.requires.passing_bound c.if-passing-eq0.false _ _ _ (exact m t c.requires.turn_bound c.requires.passing_bound) c.first_mask-number.ensures c.round.ensures in
-    let k = told in
-    record { fits = omega (arith, k.most, k.added) }
+    let p = c.requires in
+    chosen m t p.turn_bound p.passing_bound c.if-passing-eq0.false _ _ _ (exact m t p.turn_bound p.passing_bound) c.first_mask-number.ensures c.round.ensures
+
+pub overflow_add-result : goal.overflow_add-result
+overflow_add-result c = let k = told c in record { fits = omega (arith, k.most, k.added) }
 
 pub overflow_sub-result : goal.overflow_sub-result
-overflow_sub-result c =
-    let told : Chosen c.args.passing c.args.turn c.requires.turn_bound
-    c.requires.passing_bound (count_trailing_zeros 32 c.first_mask-number.result) c.round.result =
-    let m = c.args.passing in
-    let t = c.args.turn in
-    chosen m t c.requires.turn_bound c.requires.passing_bound c.if-passing-eq0.false _ _ _ (exact m t c.requires.turn_bound c.requires.passing_bound) c.first_mask-number.ensures c.round.ensures in
-    let k = told in
-    k.enough
+overflow_sub-result c = (told c).enough
 
 pub returns : goal.returns
-returns c =
-    let told : Chosen c.args.passing c.args.turn c.requires.turn_bound
-    c.requires.passing_bound (count_trailing_zeros 32 c.first_mask-number.result) c.round.result =
-    let m = c.args.passing in
-    let t = c.args.turn in
-    chosen m t c.requires.turn_bound c.requires.passing_bound c.if-passing-eq0.false _ _ _ (exact m t c.requires.turn_bound c.requires.passing_bound) c.first_mask-number.ensures c.round.ensures in
-    let k = told in
-    let a = c.args in
-    picked_of_lem a.passing a.turn _ _ k.number k.steps
+returns c = picked_of_lem c.args.passing c.args.turn _ _ (told c).number (told c).steps
