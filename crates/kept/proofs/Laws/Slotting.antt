@@ -31,9 +31,9 @@ use Rattle.kept.specs.declared.numbers.Numbers.{Numbers}
 -- What a slot has worked out before its grant: who waits on claim, whether the others are blocked, who passes, and who is picked.
 pub record Worked (period access writeback : ℕ) (f : Numbers) (wait : ℕ) (b : Bool) (m : ℕ) (g : Picked) : Type 0 where
   pub wait_small : wait < 131072
-  pub wait_at_lem : (n : ℕ) → bit wait n ≡ wait_at (bit access n) (bit writeback n) (bit f.has n) (bit f.back n)
+  pub wait_bits : (n : ℕ) → bit wait n ≡ wait_at (bit access n) (bit writeback n) (bit f.has n) (bit f.back n)
   pub block_is : b ≡ (leb period f.spoken && not (eqb wait 0))
-  pub pass_at_lem : (n : ℕ) → bit m n
+  pub pass_bits : (n : ℕ) → bit m n
       ≡ pass_at (bit wait n) (free_at (eqb n 0) (bit access n) (bit writeback n) (bit f.may n) (bit f.room n) (not (eqb f.stock 0))) b
   pub pick_is : g ≡ picked_of m f.turn
 
@@ -88,7 +88,7 @@ module _ {reclaimcap writebackcap : List ℕ} {f : Numbers} {t : Tables} {period
   module _ (n : ℕ) (lo : n ≢ 0) (passing : bit m n ≡ true) (apart : (bit access n && bit writeback n) ≡ false) where
     passed : pass_at (wait_at (bit access n) (bit writeback n) (bit f.has n) (bit f.back n))
         (free_at false (bit access n) (bit writeback n) (bit f.may n) (bit f.room n) (not (eqb f.stock 0))) b ≡ true
-    passed = rw (v.wait_at_lem n, ne_eqb n 0 lo) at (sym (v.pass_at_lem n) ∙ passing)
+    passed = rw (v.wait_bits n, ne_eqb n 0 lo) at (sym (v.pass_bits n) ∙ passing)
 
     below : bit f.back n ≡ true → bit f.room n ≡ true
     below q =
@@ -129,11 +129,11 @@ module _ {reclaimcap writebackcap : List ℕ} {f : Numbers} {t : Tables} {period
     blocks =
         v.block_is
         ∙ ap₂ (λ (p q : ℕ). leb p q && not (eqb wait 0)) (sym of.period_is) kept.spoken_is
-        ∙ blocked_is s o access writeback f.has f.back f.may f.room given marked held wait v.wait_at_lem v.wait_small (omega (arith, of.period_is))
+        ∙ blocked_is s o access writeback f.has f.back f.may f.room given marked held wait v.wait_bits v.wait_small (omega (arith, of.period_is))
 
     picked : (g.number ≡ granted s o) × (g.steps ≡ steps_of s o)
     picked =
-        let pass = passing_is s o access writeback f.has f.back f.may f.room given marked held wait v.wait_at_lem m b blocks v.pass_at_lem in
+        let pass = passing_is s o access writeback f.has f.back f.may f.room given marked held wait v.wait_bits m b blocks v.pass_bits in
         let p = picked_is s o m (λ n h. pass n) ready.turn_small in
         (ap (λ (q : Picked). q.number) v.pick_is ∙ p.0, ap (λ (q : Picked). q.steps) v.pick_is ∙ p.1)
 
