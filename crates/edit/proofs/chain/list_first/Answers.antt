@@ -1,5 +1,4 @@
 use mathlib.Core.Path.{refl}
-use Prim.Native.Nat.{◌<◌}
 use native.Mathlib.Omega.{arith}
 use borrow.Author.Rules.{rules}
 use Rattle.plan.proofs.Laws.Telling.{at_most_sixteen}
@@ -11,14 +10,10 @@ pub loop-k-init : goal.loop-k-init
 loop-k-init c = (search rules, record { within = omega arith; front = refl; long = refl })
 
 pub offset_bounds-records-k : goal.offset_bounds-records-k
-offset_bounds-records-k c =
-    let room : c.loop-k.k < 16 = omega (arith, c.loop-k-test.true, c.requires.1, at_most_sixteen c.args.file.now) in
-    omega (arith, room)
+offset_bounds-records-k c = omega (arith, c.loop-k-test.true, c.requires.1, at_most_sixteen c.args.file.now)
 
 pub bounds-records-k : goal.bounds-records-k
-bounds-records-k c =
-    let room : c.loop-k.k < 16 = omega (arith, c.loop-k-test.true, c.requires.1, at_most_sixteen c.args.file.now) in
-    omega (arith, room, c.loop-k.invariant.1.long)
+bounds-records-k c = omega (arith, c.loop-k-test.true, c.requires.1, at_most_sixteen c.args.file.now, c.loop-k.invariant.1.long)
 
 pub link_of-next-requires : goal.link_of-next-requires
 link_of-next-requires c =
@@ -26,19 +21,13 @@ link_of-next-requires c =
     omega (arith, listing_at v.invariant.1, source_in c.args.file.now c.requires.0 v.k v.invariant.1.within)
 
 pub overflow_add-k : goal.overflow_add-k
-overflow_add-k c =
-    let room : c.loop-k.k < 16 = omega (arith, c.loop-k-test.true, c.requires.1, at_most_sixteen c.args.file.now) in
-    omega (arith, room)
+overflow_add-k c = omega (arith, c.loop-k-test.true, c.requires.1, at_most_sixteen c.args.file.now)
 
 pub offset_bounds-records-k-in-loop-k : goal.offset_bounds-records-k-in-loop-k
-offset_bounds-records-k-in-loop-k c =
-    let room : c.loop-k.k < 16 = omega (arith, c.loop-k-test.true, c.requires.1, at_most_sixteen c.args.file.now) in
-    omega (arith, room)
+offset_bounds-records-k-in-loop-k c = omega (arith, c.loop-k-test.true, c.requires.1, at_most_sixteen c.args.file.now)
 
 pub bounds-records-k-in-loop-k : goal.bounds-records-k-in-loop-k
-bounds-records-k-in-loop-k c =
-    let room : c.loop-k.k < 16 = omega (arith, c.loop-k-test.true, c.requires.1, at_most_sixteen c.args.file.now) in
-    omega (arith, room, c.loop-k.invariant.1.long)
+bounds-records-k-in-loop-k c = omega (arith, c.loop-k-test.true, c.requires.1, at_most_sixteen c.args.file.now, c.loop-k.invariant.1.long)
 
 pub loop-k-preserved : goal.loop-k-preserved
 loop-k-preserved c =

@@ -1,9 +1,7 @@
 use mathlib.Core.Path.{ap, ◌∙◌}
-use Prim.Native.Nat.{◌<◌, ◌≤◌}
 use native.Mathlib.Omega.{arith}
 use Rattle.plan.specs.Records.{domain_in, next_in}
 use Rattle.plan.specs.declared.value.Domain.{Domain}
-use Rattle.plan.proofs.Laws.Links.{Taken}
 use Rattle.plan.proofs.Laws.Walking.{starts, ended, refused, took, fewer, sum_fits, onward}
 use Rattle.plan.proofs.chain.walk.Goals as goal
 
@@ -20,21 +18,24 @@ returns-then-refused-ne0 c =
 
 pub record_part-b-requires : goal.record_part-b-requires
 record_part-b-requires c =
-    let taking : Taken c.args.file.now c.loop-i.invariant.chain c.loop-i.i = took c.loop-i.invariant _ _ c.loop-i-test.true c.u16_at-period.ensures c.following-refused.ensures c.if-refused-ne0.false in
-    omega (arith, (taking).inside)
+    omega (arith, (took c.loop-i.invariant _ _ c.loop-i-test.true c.u16_at-period.ensures c.following-refused.ensures c.if-refused-ne0.false).inside)
 
 pub gather-gathered-requires : goal.gather-gathered-requires
 gather-gathered-requires c =
-    let taking : Taken c.args.file.now c.loop-i.invariant.chain c.loop-i.i = took c.loop-i.invariant _ _ c.loop-i-test.true c.u16_at-period.ensures c.following-refused.ensures c.if-refused-ne0.false in
-    let spare : (let g = c.loop-i.gathered in (g.sums.records < 16) × (g.sum ≤ 1966050)) = sum_fits c.loop-i.invariant _ _ c.loop-i-test.true c.u16_at-period.ensures c.following-refused.ensures c.if-refused-ne0.false in
-    let t = taking in
+    let t = took c.loop-i.invariant _ _ c.loop-i-test.true c.u16_at-period.ensures c.following-refused.ensures c.if-refused-ne0.false in
     let e = ap (λ (d : Domain). d.number) (c.domain_in-d.ensures ∙ ap domain_in c.record_part-b.ensures.0) in
-    record { le_number = (omega (arith, t.fine.low), omega (arith, t.fine.high)); records_bound = spare }
+    record {
+      le_number = (omega (arith, t.fine.low), omega (arith, t.fine.high));
+      records_bound = sum_fits c.loop-i.invariant _ _ c.loop-i-test.true c.u16_at-period.ensures c.following-refused.ensures c.if-refused-ne0.false;
+    }
 
 pub bounds-seen-at : goal.bounds-seen-at
 bounds-seen-at c =
-    let taking : Taken c.args.file.now c.loop-i.invariant.chain c.loop-i.i = took c.loop-i.invariant _ _ c.loop-i-test.true c.u16_at-period.ensures c.following-refused.ensures c.if-refused-ne0.false in
-    omega (arith, (taking).inside, c.requires.1)
+    grind (
+      arith,
+      (took c.loop-i.invariant _ _ c.loop-i-test.true c.u16_at-period.ensures c.following-refused.ensures c.if-refused-ne0.false).inside,
+      c.requires.1,
+    )
 
 pub loop-i-smaller : goal.loop-i-smaller
 loop-i-smaller c =
