@@ -16,8 +16,8 @@ finish-requires-clause-sound c = c.start-r.ensures.sound
 pub finish-requires-clause-used_in_bounds : goal.finish-requires-clause-used_in_bounds
 finish-requires-clause-used_in_bounds c = omega (arith, c.start-r.ensures.none)
 
-pub returns-clause-count : goal.returns-clause-count
-returns-clause-count c =
+pub returns : goal.returns
+returns c =
     let a = c.args in
     let q = c.start-r.result in
     let g = c.start-r.ensures in
@@ -28,18 +28,4 @@ returns-clause-count c =
     ∙ put_next (output a.out.now 0) (output c.start-r.new.out q.at) g.text (rest_text q script) g.shown
     ∙ ap (put (output a.out.now 0)) (sym (g.rest script)) in
     let h = e ∙ put_holding (replay_text a.plan.now script) a.out.now in
-    ap (λ (o : Output). o.count) h
-
-pub returns-clause-text : goal.returns-clause-text
-returns-clause-text c =
-    let a = c.args in
-    let q = c.start-r.result in
-    let g = c.start-r.ensures in
-    let script = c.args.script.now in
-    let e : output c.finish.new.out c.finish.result ≡ put (output a.out.now 0) (replay_text a.plan.now script) =
-    c.finish.ensures
-    ∙ ap (λ (n : ℕ). put (output c.start-r.new.out q.at) (rest_text q (drop n script))) g.none
-    ∙ put_next (output a.out.now 0) (output c.start-r.new.out q.at) g.text (rest_text q script) g.shown
-    ∙ ap (put (output a.out.now 0)) (sym (g.rest script)) in
-    let h = e ∙ put_holding (replay_text a.plan.now script) a.out.now in
-    ap (λ (o : Output). o.buffer) h
+    record { count = ap (λ (o : Output). o.count) h; text = ap (λ (o : Output). o.buffer) h }
