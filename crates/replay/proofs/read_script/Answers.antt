@@ -1,3 +1,5 @@
+-- `replay::read_script` meets its contract.
+-- Assumes nothing.
 use lib.ListN.{length}
 use Rattle.replay.specs.Buffers.{Within}
 use borrow.Author.Rules.{rules}

@@ -1,3 +1,5 @@
+-- `why::read_script` meets its contract.
+-- Assumes nothing.
 use lib.ListN.{length}
 use Rattle.why.specs.Buffers.{Within}
 use borrow.Author.Rules.{rules}

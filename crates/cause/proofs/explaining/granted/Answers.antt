@@ -1,3 +1,5 @@
+-- `cause::explaining::granted` meets its contract: a search from the front.
+-- Assumes nothing.
 use borrow.Author.Tests.{eq-eqb, ne_eqb}
 use Rattle.table.proofs.Searches.{search_from, search_on, search_found, search_out}
 use Rattle.cause.proofs.explaining.granted.Goals as goal

@@ -1,3 +1,5 @@
+-- `edit::adding::highest_free` meets its contract: what is left below gives what the whole gives.
+-- Assumes nothing.
 use mathlib.Core.Path.{◌≡◌, refl, sym, ap, ◌∙◌}
 use mathlib.Core.Bool.{not}
 use native.Mathlib.Omega.{arith}

@@ -1,3 +1,5 @@
+-- `edit::chain::is_listed` meets its contract: the record is none of the entries passed by.
+-- Assumes nothing.
 use mathlib.Core.Path.{◌≡◌, sym, ap, ◌∙◌}
 use Prim.Native.Nat.{ℕ, ◌+◌, ◌<◌}
 use native.Mathlib.Omega.{arith}

@@ -1,3 +1,5 @@
+-- `edit::chain::list_first` meets its contract: record 0 and the records passed are listed.
+-- Assumes nothing.
 use mathlib.Core.Path.{refl}
 use native.Mathlib.Omega.{arith}
 use borrow.Author.Rules.{rules}

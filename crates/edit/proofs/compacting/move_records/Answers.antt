@@ -1,3 +1,5 @@
+-- `edit::compacting::move_records` meets its contract: the records passed are moved, and the bytes behind them as they were.
+-- Assumes nothing.
 use mathlib.Core.Path.{◌≡◌, ◌∙◌}
 use Prim.Native.Nat.{◌+◌, ◌*◌, ◌≤◌}
 use native.Mathlib.Omega.{arith}

@@ -1,3 +1,5 @@
+-- `edit::dropping::place_of` meets its contract: the domain is none of those passed by.
+-- Assumes nothing.
 use mathlib.Core.Path.{◌≡◌, sym, subst, ◌∙◌}
 use Prim.Native.Nat.{ℕ, ◌+◌, ◌<◌}
 use native.Mathlib.Omega.{arith}

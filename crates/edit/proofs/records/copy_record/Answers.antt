@@ -1,3 +1,5 @@
+-- `edit::records::copy_record` meets its contract: the bytes passed are those of the record.
+-- Assumes nothing.
 use mathlib.Core.Path.{◌∙◌}
 use native.Mathlib.Omega.{arith}
 use borrow.Author.Rules.{rules}

@@ -1,3 +1,5 @@
+-- `edit::rescuing::kept_count` meets its contract: what remains of the records not dropped yet is what remains of all.
+-- Assumes nothing.
 use mathlib.Core.Path.{◌≡◌, sym, ap, ◌∙◌}
 use Prim.Native.Nat.{◌-◌, suc, ◌≤◌, ◌<◌}
 use native.Mathlib.Omega.{arith}

@@ -1,3 +1,5 @@
+-- `edit::rescuing::zero_others` meets its contract: the records passed are kept or zeroed, and the bytes behind them as they were.
+-- Assumes nothing.
 use mathlib.Core.Path.{◌≡◌, sym, ap, subst, ◌∙◌}
 use mathlib.Core.Bool.{not}
 use mathlib.Core.List.{List}

@@ -1,3 +1,5 @@
+-- `engine::masks::unlike` meets its contract.
+-- Assumes nothing.
 use mathlib.Core.Path.{◌≡◌, refl}
 use native.Mathlib.Omega.{arith}
 use lib.ListN.{length}

@@ -1,3 +1,5 @@
+-- `plan::chain::walk` meets its contract: the loop's invariant is `Walking`, and its measure the records not seen yet.
+-- Assumes nothing.
 use mathlib.Core.Path.{ap, ◌∙◌}
 use native.Mathlib.Omega.{arith}
 use Rattle.plan.specs.Records.{domain_in, next_in}

@@ -1,3 +1,5 @@
+-- `plan::leftovers::lowest_leftover` meets its contract: a search from the front, which record 0 cannot end.
+-- Assumes nothing.
 use mathlib.Core.Path.{◌≡◌, sym, ◌∙◌}
 use native.Mathlib.Omega.{arith}
 use Rattle.table.proofs.Searches.{search_from, search_on, search_found, search_out}

@@ -1,3 +1,5 @@
+-- `plan::records::all_zero` meets its contract: what is left to test decides as the whole does.
+-- Assumes nothing.
 use mathlib.Core.Path.{sym, ap, ◌∙◌}
 use Prim.Native.Nat.{ℕ}
 use lib.Dec.{eqb}

@@ -1,3 +1,5 @@
+-- `plan::value::lowest_fault` meets its contract: a search from the front.
+-- Assumes nothing.
 use mathlib.Core.Path.{sym, ◌∙◌}
 use Rattle.table.proofs.Searches.{search_from, search_on, search_found, search_out}
 use Rattle.plan.proofs.value.lowest_fault.Invariants.{fault}

@@ -1,3 +1,5 @@
+-- `plan::writing::list_domains` meets its contract: the domains of the numbers passed are listed.
+-- Assumes nothing.
 use mathlib.Core.Path.{◌≡◌, subst}
 use Prim.Native.Nat.{ℕ}
 use native.Mathlib.Omega.{arith}

@@ -1,3 +1,5 @@
+-- `plan::writing::put_records` meets its contract: the records passed are written, and the bytes behind them as they were.
+-- Assumes nothing.
 use mathlib.Core.Path.{◌≡◌, ap, ◌∙◌}
 use Prim.Native.Nat.{ℕ, ◌+◌, ◌*◌, ◌≤◌}
 use native.Mathlib.Omega.{arith}

@@ -1,3 +1,5 @@
+-- `regulator::forecast::close_all` meets its contract: the estimates are filled in from the front.
+-- Assumes nothing.
 use native.Mathlib.Omega.{arith}
 use borrow.Author.Rules.{rules}
 use Rattle.table.proofs.Filling.{filled_from, filled_on, filled_whole}

@@ -1,3 +1,5 @@
+-- `regulator::forecast::estimates_add_up` meets its contract: every estimate passed adds up.
+-- Assumes nothing.
 use mathlib.Core.Path.{◌≡◌, sym, subst, ◌∙◌}
 use mathlib.Core.Bool.{true}
 use Prim.Native.Nat.{ℕ}

@@ -1,3 +1,5 @@
+-- `regulator::forecast::left_over` meets its contract: what is left over is filled in from the front.
+-- Assumes nothing.
 use native.Mathlib.Omega.{arith}
 use borrow.Author.Rules.{rules}
 use lib.ListN.{replicate}

@@ -1,3 +1,5 @@
+-- `regulator::forecast::lowest_above` meets its contract: a search from the front.
+-- Assumes nothing.
 use Rattle.table.proofs.Searches.{search_from, search_on, search_found, search_out}
 use Rattle.regulator.specs.Forecast.{at_or_above}
 use Rattle.regulator.proofs.forecast.lowest_above.Goals as goal

@@ -1,3 +1,5 @@
+-- `regulator::refusals::any_above_two` meets its contract: no byte passed is above 2.
+-- Assumes nothing.
 use mathlib.Core.Path.{◌≡◌, sym, subst}
 use mathlib.Core.Bool.{false}
 use Prim.Native.Nat.{ℕ}

@@ -1,3 +1,5 @@
+-- `regulator::refusals::any_unplanned` meets its contract: no domain passed offers unplanned.
+-- Assumes nothing.
 use mathlib.Core.Path.{◌≡◌, sym, subst, ◌∙◌}
 use mathlib.Core.Bool.{false}
 use Prim.Native.Nat.{ℕ}

@@ -1,3 +1,5 @@
+-- `regulator::state::domains_add_up` meets its contract: every domain passed adds up.
+-- Assumes nothing.
 use mathlib.Core.Path.{◌≡◌, sym, subst, ◌∙◌}
 use mathlib.Core.Bool.{true}
 use Prim.Native.Nat.{ℕ}

@@ -1,3 +1,6 @@
+-- `regulator::turn::pick` meets its contract: what is left to ask gives what all give, and the number at hand is as far from the turn as
+-- numbers were asked.
+-- Assumes nothing.
 use mathlib.Core.Path.{refl, sym, ap, ◌∙◌}
 use mathlib.Core.Bool.{Bool}
 use Prim.Native.Nat.{ℕ, ◌-◌, ◌≤◌}

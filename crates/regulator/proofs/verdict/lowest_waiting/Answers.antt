@@ -1,3 +1,5 @@
+-- `regulator::verdict::lowest_waiting` meets its contract: no domain passed is waiting on claim.
+-- Assumes nothing.
 use mathlib.Core.Path.{◌≡◌, sym, ◌∙◌}
 use native.Mathlib.Omega.{arith}
 use Rattle.table.proofs.Searches.{search_from, search_on, search_found, search_out}

@@ -1,3 +1,5 @@
+-- `regulator::verdict::rule` meets its contract: the buffer is filled with the rulings from the front.
+-- Assumes nothing.
 use mathlib.Core.Path.{◌≡◌, subst, ◌∙◌}
 use Prim.Native.Nat.{ℕ, ◌+◌}
 use native.Mathlib.Omega.{arith}

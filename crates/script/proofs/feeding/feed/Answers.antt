@@ -1,3 +1,5 @@
+-- `script::feeding::feed` meets its contract.
+-- Assumes nothing.
 use mathlib.Core.Path.{sym, ◌∙◌}
 use mathlib.Core.Bool.{false≢true}
 use Prim.Native.Nat.{◌≤◌}

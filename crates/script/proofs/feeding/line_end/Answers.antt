@@ -1,3 +1,5 @@
+-- `script::feeding::line_end` meets its contract.
+-- Assumes nothing.
 use mathlib.Core.Path.{◌≡◌}
 use mathlib.Core.Bool.{not}
 use Prim.Native.Nat.{ℕ, ◌-◌}

@@ -1,3 +1,5 @@
+-- `script::line::copy_offers` meets its contract.
+-- Assumes nothing.
 use mathlib.Core.Path.{◌≡◌, refl, ◌∙◌}
 use mathlib.Core.Bool.{true}
 use native.Mathlib.Omega.{arith}

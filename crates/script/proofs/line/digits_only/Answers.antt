@@ -1,3 +1,5 @@
+-- `script::line::digits_only` meets its contract: what is left to test decides as the whole does.
+-- Assumes nothing.
 use mathlib.Core.Path.{sym, ap, ◌∙◌}
 use mathlib.Core.Bool.{Bool, ◌&&◌}
 use Prim.Native.Nat.{◌+◌}

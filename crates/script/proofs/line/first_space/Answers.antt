@@ -1,3 +1,5 @@
+-- `script::line::first_space` meets its contract.
+-- Assumes nothing.
 use native.Mathlib.Omega.{arith}
 use Rattle.script.proofs.Laws.Reading.{seek_start, seek_more, seek_found, seek_none}
 use borrow.Author.Rules.{rules}

@@ -1,3 +1,5 @@
+-- `script::output::put_bytes` meets its contract: what is left of the text goes behind what was put.
+-- Assumes nothing.
 use mathlib.Core.Path.{◌≡◌, refl, sym, ap, ◌∙◌}
 use mathlib.Core.List.{◌∷◌}
 use Prim.Native.Nat.{◌+◌}

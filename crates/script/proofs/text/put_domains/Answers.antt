@@ -1,3 +1,5 @@
+-- `script::text::put_domains` meets its contract: the domains so far are put.
+-- Assumes nothing.
 use mathlib.Core.Path.{◌≡◌, sym, ap, ◌∙◌}
 use Prim.Native.Nat.{ℕ}
 use native.Mathlib.Omega.{arith}

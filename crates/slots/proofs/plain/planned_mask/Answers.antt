@@ -1,3 +1,5 @@
+-- `slots::plain::planned_mask` meets its contract.
+-- Assumes nothing.
 use mathlib.Core.Path.{◌≡◌, refl}
 use mathlib.Core.Bool.{false}
 use native.Mathlib.Omega.{arith}
