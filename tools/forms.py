@@ -48,9 +48,9 @@ def plain(text):
 
 
 def count(commit):
-    found = {p: [] for p in ('1', '2', '3', '4', '5', '6', '7')}
+    found = {p: [] for p in ('1', '2', '3', '4', '5', '5f', '6', '7')}
     bodies = {}
-    clauses = {}
+    facts = {}
     for crate, name, text in sources(commit):
         at = lambda m: text.count('\n', 0, m.start()) + 1
         # 1: a struct that holds the number of a refusal, or a flag that says whether the rest counts; a function that answers the
@@ -73,6 +73,10 @@ def count(commit):
             n = len([p for p in params.split(',') if p.strip()])
             if n >= 7:
                 found['5'].append((crate, name, line, f'fn {fn}, {n} parameters'))
+            # 5f: a fact that three and more contracts of a crate ask for
+            for text_of in re.findall(r'requires(?: \w+)? \{ (.*) \}', clause):
+                for fact in {f.strip(' ()') for f in text_of.split(' × ')}:
+                    facts.setdefault((crate, fact), []).append((crate, name, line, f'fn {fn}: {fact}'))
             # 6: a buffer with the length of what it holds beside it
             if re.search(r'\bout: &mut \[u8\], (at|from): usize', params):
                 found['6'].append((crate, name, line, f'fn {fn}'))
@@ -98,6 +102,9 @@ def count(commit):
     for (key, _), places in bodies.items():
         if len(places) > 1:
             found['2'] += places
+    for places in facts.values():
+        if len(places) > 2:
+            found['5f'] += places
     return found
 
 

@@ -4,7 +4,8 @@
 // and b lacks.
 //
 // Each contract speaks of every bit, so that what a mask says of a number is computed as tests are. The laws (proofs/) are what the
-// crates above cite.
+// crates above cite. A mask stays a plain u32: digits, shifts and counts of zeros make and read masks too, and each would unwrap a
+// type of masks first.
 #![tactic(auto)]
 
 ghost use Rattle.std.specs.Prelude.{◌≡◌, not, ◌&&◌, ◌||◌, ℕ, ◌<◌, eqb};

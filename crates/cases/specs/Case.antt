@@ -2,20 +2,17 @@
 -- Assumes nothing.
 use Rattle.std.specs.Prelude.{ℕ, List, [], ◌∷◌, map, length, ℤ}
 use Rattle.std.proofs.Math.Option.{Option}
-use Rattle.plan.specs.Reading.{read_plan, read_with_leftovers}
+use Rattle.plan.specs.Reading.{read_plan, read_with_leftovers, Reading}
 use Rattle.plan.specs.Sums.{sums_told}
-use Rattle.plan.specs.Writing.{write_plan, written}
+use Rattle.plan.specs.Writing.{write_plan, written, Writing}
 use Rattle.plan.specs.declared.value.Plan.{Plan}
 use Rattle.plan.specs.declared.chain.Sums.{Sums}
-use Rattle.plan.specs.declared.reading.Reading.{Reading}
-use Rattle.plan.specs.declared.writing.Writing.{Writing}
 use Rattle.regulator.specs.Forecast.{next_estimate, need_of}
 use Rattle.regulator.specs.Verdict.{loose}
-use Rattle.regulator.specs.Calls.{open_plan, hand_of}
+use Rattle.regulator.specs.Calls.{open_plan, hand_of, Handing}
 use Rattle.regulator.specs.declared.forecast.Estimate.{Estimate}
 use Rattle.regulator.specs.declared.state.State.{State}
 use Rattle.regulator.specs.declared.close.Counts.{Counts}
-use Rattle.regulator.specs.declared.calls.Handing.{Handing}
 use Rattle.script.specs.Line.{Meaning, meaning_of, offers_in}
 use Rattle.script.specs.Replay.{replay_text}
 use Rattle.share.specs.Call.{Call}

@@ -12,7 +12,7 @@ use Rattle.regulator.specs.State.{none_waiting}
 use Rattle.regulator.specs.declared.state.State.{State}
 use Rattle.regulator.specs.declared.state.Waiting.{Waiting}
 use Rattle.regulator.specs.declared.close.Counts.{Counts}
-use Rattle.regulator.specs.declared.calls.Handing.{Handing}
+use Rattle.regulator.specs.Calls.{Handing}
 use Rattle.script.specs.Line.{slot_line, yield_line, bad_line}
 use Rattle.script.specs.Text.{bytes}
 use Rattle.share.specs.Call.{Call, slot, yield, hand_in}

@@ -1,10 +1,9 @@
 -- Cases of document 02, Point 5: plan files with and without leftovers, read by both rules.
 -- Assumes nothing.
 use Rattle.std.specs.Prelude.{ℕ, ◌+◌, ◌-◌, List, [], ◌∷◌, ◌++◌, true, false, replicate}
-use Rattle.plan.specs.Reading.{refused_reading, accepted_reading}
+use Rattle.plan.specs.Reading.{refused_reading, accepted_reading, Reading}
 use Rattle.plan.specs.Writing.{records_from}
 use Rattle.plan.specs.declared.value.Plan.{Plan}
-use Rattle.plan.specs.declared.reading.Reading.{Reading}
 use Rattle.script.specs.Text.{bytes}
 use Rattle.cases.specs.Case.{both, summed, value, replayed, Outcome, readings, writing, prints, Case}
 use Rattle.cases.specs.Cases.{head, domain, plan_a, value_of, tells}

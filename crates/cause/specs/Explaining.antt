@@ -1,11 +1,13 @@
 -- The call that tells the cause: when it is refused, and what it answers.
 -- Assumes nothing.
-use Rattle.std.specs.Prelude.{ℕ, List, Bool, cond, not, ◌&&◌, eqb}
+use Rattle.std.specs.Prelude.{ℕ, List, Bool, cond, not, ◌&&◌, eqb, Result, Ok, Err}
 use Rattle.plan.specs.declared.value.Plan.{Plan}
-use Rattle.regulator.specs.Refusals.{slot_refusal, no_domain}
+use Rattle.regulator.specs.Refusals.{slot_refusal, slot_number, no_domain}
 use Rattle.regulator.specs.declared.state.State.{State}
 use Rattle.cause.specs.Cause.{Cause, none, verdict_of, cause_of, told_by}
 use Rattle.cause.specs.declared.explaining.Explained.{Explained}
+use Rattle.cause.specs.declared.explaining.ExplainFault.{ExplainFault}
+use Rattle.cause.specs.declared.explaining.ExplainFault.TheVariants.{Slot, Number}
 
 -- 62: "the number is neither 0 nor planned in that slot"
 unfoldable pub no_number : Plan → ℕ → Bool
@@ -29,6 +31,12 @@ explain_of s offers n =
     let r = explain_refusal s offers n in
     cond (eqb r 0) (record { refused = 0; verdict = verdict_of s offers n; cause = cause_of s offers n }) (record { refused = r; verdict = 0; cause = none })
 
+-- The number of what the call is refused for.
+abbrev pub explain_number : ExplainFault → ℕ
+explain_number (Slot e) = slot_number e
+explain_number Number = 62
+
 -- what the call's answer says
-abbrev pub explained_by : Explained → Explanation
-explained_by e = record { refused = e.refused; verdict = e.verdict; cause = told_by e.cause }
+abbrev pub explained_by : Result Explained ExplainFault → Explanation
+explained_by (Ok e) = record { refused = 0; verdict = e.verdict; cause = told_by e.cause }
+explained_by (Err e) = record { refused = explain_number e; verdict = 0; cause = none }

@@ -5,11 +5,10 @@ use Rattle.std.specs.Prelude.{ℕ, ◌+◌, ◌-◌, ◌≤◌, ◌<◌, ◌≡�
 use Rattle.std.specs.Int.Signed.{le_z}
 use Rattle.table.specs.Sums.{nth, sum, raised, lowered}
 use Rattle.regulator.specs.Verdict.{claim_of, waiting, loose}
-use Rattle.regulator.specs.Close.{counts_of}
+use Rattle.regulator.specs.Close.{counts_of, Answer}
 use Rattle.regulator.specs.Calls.{slot_of, verdicts_in}
 use Rattle.regulator.specs.declared.state.State.{State}
 use Rattle.regulator.specs.declared.close.Counts.{Counts}
-use Rattle.regulator.specs.declared.close.Answer.{Answer}
 use Rattle.cause.specs.Cause.{of_claim, of_stock, of_neither, Cause, none, word, number, cap, totals, loose_and, cause_of}
 
 -- the period's counts with the slot in them: those told where the slot completes the period, and else those of the state returned

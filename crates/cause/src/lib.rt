@@ -8,4 +8,4 @@ mod cause;
 mod explaining;
 
 pub use cause::Told;
-pub use explaining::{Explained, explain};
+pub use explaining::{ExplainFault, Explained, explain};

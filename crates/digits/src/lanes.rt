@@ -2,32 +2,21 @@
 ghost use Rattle.std.specs.Prelude.{◌≡◌, ◌+◌, ◌<◌, ◌≤◌, length};
 ghost use Rattle.digits.specs.Lanes.{Lanes, from, Folded, Gathered};
 
-fn wide(x: u8) -> u64
-    ensures { (result ≡ x) × (result < 256) }
-{
-    x as u64
-}
-
-// Two bytes as one number, lowest first; then four, then eight. The compiler makes one load of it.
-fn pair(b: &[u8], at: usize) -> u64
-    requires { at + 2 ≤ length b.now }
-    ensures { Lanes (from b.now at) 2 result }
-{
-    wide(b[at]) + wide(b[at + 1]) * 256
-}
-
-fn quad(b: &[u8], at: usize) -> u64
-    requires { at + 4 ≤ length b.now }
-    ensures { Lanes (from b.now at) 4 result }
-{
-    pair(b, at) + pair(b, at + 2) * 65536
-}
-
+// Eight bytes as one number, lowest first. The compiler makes one load of it.
 pub fn word(b: &[u8], at: usize) -> u64
     requires { at + 8 ≤ length b.now }
     ensures { Lanes (from b.now at) 8 result }
 {
-    quad(b, at) + quad(b, at + 4) * 4294967296
+    u64::from_le_bytes([
+        b[at],
+        b[at + 1],
+        b[at + 2],
+        b[at + 3],
+        b[at + 4],
+        b[at + 5],
+        b[at + 6],
+        b[at + 7],
+    ])
 }
 
 // The upper four bytes laid between the lower four. Where no byte is above 3, the two bits of byte i are then at 8 * i, and those

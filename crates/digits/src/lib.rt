@@ -1,13 +1,11 @@
 // The seventeen digits of a slot line, read eight bytes at a time.
 //
-// offers(b, at): digits 0, 1 or 2 from a place on as two masks, of accesses and of writebacks; Other where a byte is no such digit.
+// offers(b, at): digits 0, 1 or 2 from a place on as two masks, of accesses and of writebacks; None where a byte is no such digit.
 //
-// Nothing is promised of Other: who is told so reads the bytes one by one.
+// Nothing is promised of None: who is told so reads the bytes one by one.
 #![tactic(auto)]
 
-mod answer;
 mod lanes;
-mod masks;
+mod reading;
 
-pub use answer::Offers;
-pub use masks::offers;
+pub use reading::{Masks, offers};

@@ -4,12 +4,11 @@ use Rattle.std.specs.Prelude.{ℕ, ◌+◌, ◌≡◌, ◌≢◌, List, [], ◌�
 use Rattle.table.specs.Members.{has, last_of}
 use Rattle.table.specs.Ranges.{some_below, highest}
 use Rattle.table.specs.Lines.{Line, first_of}
-use Rattle.plan.specs.Value.{with_domain, above, above_cap, reserves, reserved_of, refusal}
+use Rattle.plan.specs.Value.{with_domain, above, above_cap, reserves, reserved_of, refusal, Refusal}
 use Rattle.plan.specs.Records.{record_count, period_in, domain_record}
 use Rattle.plan.specs.Chain.{no_number, chain_of, domains_in}
 use Rattle.plan.specs.Reading.{accepted_reading, read_plan}
 use Rattle.plan.specs.declared.value.Domain.{Domain}
-use Rattle.plan.specs.declared.value.Refusal.{Refusal}
 use Rattle.edit.specs.Laying.{laid, rewritten, OnlyTwo}
 use Rattle.edit.specs.Dropping.{numbers_in}
 use Rattle.edit.specs.declared.adding.NewDomain.{NewDomain}

@@ -3,12 +3,11 @@
 use Rattle.std.specs.Prelude.{ℕ, suc, ◌≡◌, ◌≢◌, List, ◌∷◌, cond, length, eqb, leb}
 use Rattle.table.specs.Sums.{nth}
 use Rattle.table.specs.Ranges.{values_below}
-use Rattle.plan.specs.Value.{refusal}
+use Rattle.plan.specs.Value.{refusal, Refusal}
 use Rattle.plan.specs.Records.{record_at}
 use Rattle.plan.specs.Chain.{chain_of, domains_in}
 use Rattle.plan.specs.Reading.{read_plan, read_with_leftovers}
 use Rattle.plan.specs.Writing.{next_index}
-use Rattle.plan.specs.declared.value.Refusal.{Refusal}
 use Rattle.edit.specs.Laying.{laid, blank, relinked}
 
 -- the record that comes to stand at k: record 0 at its place, then those of the chain in chain order

@@ -4,12 +4,11 @@ use Rattle.std.specs.Prelude.{ℕ, ◌-◌, ◌≡◌, ◌≢◌, List, [], ◌�
 use Rattle.table.specs.Sums.{nth}
 use Rattle.table.specs.Members.{has, place_in, without}
 use Rattle.table.specs.Lines.{Line, first_of}
-use Rattle.plan.specs.Value.{refusal}
+use Rattle.plan.specs.Value.{refusal, Refusal}
 use Rattle.plan.specs.Records.{number_at}
 use Rattle.plan.specs.Chain.{link_of, chain_of}
 use Rattle.plan.specs.Reading.{accepted_reading, read_plan}
 use Rattle.plan.specs.declared.value.Plan.{Plan}
-use Rattle.plan.specs.declared.value.Refusal.{Refusal}
 use Rattle.edit.specs.Laying.{laid, blank, rewritten, OnlyTwo}
 
 -- the domain numbers of a file's chain, in chain order

@@ -4,4 +4,5 @@ pub mod Dropping
 pub mod Adding
 pub mod Compaction
 pub mod Rescue
+pub mod Faults
 pub mod Inner

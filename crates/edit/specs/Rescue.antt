@@ -1,14 +1,14 @@
 -- Rescuing a plan file whose chain is broken (document 02, Point 14).
 -- Assumes nothing.
-use Rattle.std.specs.Prelude.{ℕ, zero, suc, ◌≤◌, ◌<◌, ◌≡◌, ◌≢◌, List, [], ◌∷◌, ◌++◌, Bool, true, cond, ◌&&◌, length, take, eqb, leb, ltb}
+use Rattle.std.specs.Prelude.{ℕ, zero, suc, ◌≤◌, ◌<◌, ◌≡◌, ◌≢◌, List, [], ◌∷◌, ◌++◌, Bool, true, cond, ◌&&◌, length, take, eqb, leb, ltb, Result, Ok, Err}
 use Rattle.table.specs.Members.{has, last_of}
 use Rattle.table.specs.Lines.{Line, first_of}
-use Rattle.plan.specs.Value.{plan_of, reserved_of}
+use Rattle.plan.specs.Value.{plan_of, reserved_of, number}
 use Rattle.plan.specs.Records.{record_at, period_in}
 use Rattle.plan.specs.Chain.{link, goes_on, chain_of, domains_at, domains_in}
 use Rattle.plan.specs.Reading.{accepted_reading, read_plan}
+use Rattle.plan.specs.declared.refusal.Refused.{Refused}
 use Rattle.edit.specs.Laying.{laid, blank, with_link}
-use Rattle.edit.specs.declared.rescuing.Rescued.{Rescued}
 
 -- "The tool sets to 0 the link whose following draws the first refusal of 4 to 9 or 11": the records before that refusal are
 -- `chain_of`, and so they are left. The link is that of the last of them, or of record 0 where there is none.
@@ -32,6 +32,17 @@ rescued_record s k = cond (has k (0 ∷ kept_records s)) (with_link s (last_of 0
 -- "Refusals 1 to 3 remain refusals", those of reading, with their place; nothing else is refused
 abbrev pub stays_refused : ℕ → Bool
 stays_refused n = leb 1 n && leb n 3
+
+-- What rescuing answers: the number of a refusal and its place, and 0 kept; or 0, 0 and how many records of the chain were kept.
+pub record Rescued : Type 0 where
+  pub refused : ℕ
+  pub place : ℕ
+  pub kept : ℕ
+
+-- What a call's answer says in these words.
+abbrev pub rescued_by : Result ℕ Refused → Rescued
+rescued_by (Ok kept) = record { refused = 0; place = 0; kept = kept }
+rescued_by (Err e) = record { refused = number e.fault; place = e.place; kept = 0 }
 
 abbrev pub rescue_table : List ℕ → List (Line Rescued)
 rescue_table s = (stays_refused (read_plan s).refused, record { refused = (read_plan s).refused; place = (read_plan s).place; kept = 0 }) ∷ []

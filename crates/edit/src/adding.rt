@@ -1,17 +1,18 @@
 // Adding a domain to a plan file: two of its records are written.
-ghost use Rattle.std.specs.Prelude.{◌≡◌, false, ◌-◌, ◌≤◌, get_or};
-ghost use Rattle.table.specs.Ranges.{highest};
+ghost use Rattle.std.specs.Prelude.{◌≡◌, false, ◌-◌, get_or};
 ghost use Rattle.table.specs.Lines.{first_of};
-ghost use Rattle.plan.specs.Value.{above, reserved};
+ghost use Rattle.plan.specs.Value.{reserved};
 ghost use Rattle.plan.specs.Records.{domain_record};
-ghost use Rattle.plan.specs.Chain.{no_number};
+ghost use Rattle.plan.specs.Walk.{fault_number};
 ghost use Rattle.plan.proofs.Laws.Holding.{Fine};
 ghost use Rattle.edit.specs.Adding.{asked, domain_table, add_refusal, added};
-ghost use Rattle.edit.specs.Inner.{unlisted_in};
+ghost use Rattle.edit.specs.Faults.{edit_refusal_by};
+ghost use Rattle.edit.specs.Inner.{unlisted_in, IsHighest};
 
 use crate::chain::Indices;
+use crate::faults::EditFault;
 use crate::{chain, records};
-use plan::{Domain, Plan, Refusal};
+use plan::{Domain, Fault, Plan};
 
 // The domain to add, in numbers so wide that nothing is cut.
 #[derive(Clone, Copy)]
@@ -24,58 +25,41 @@ pub struct NewDomain {
     pub marked: bool,
 }
 
-// Is the domain number 0 or above 16?
-fn is_no_number(n: u64) -> bool
-    ensures { result ≡ no_number n }
+// What a domain is refused for on being added to a plan that was read: 6, 7, 9, 11 or 10.
+fn check_domain(p: Plan, d: NewDomain) -> Result<(), Fault>
+    ensures { fault_number result ≡ first_of (domain_table p.period (get_or p.planned (d.number - 1) false) (reserved p) (asked d)) 0 }
 {
-    n == 0 || 16 < n
-}
-
-// Is Q, R or W of the domain above what they may be at most?
-fn any_above(most: u64, d: NewDomain) -> bool
-    ensures { result ≡ above most d.reservation d.reclaimcap d.writebackcap }
-{
-    most < d.reservation || (most < d.reclaimcap || most < d.writebackcap)
-}
-
-// The refusal that a domain draws on being added to a plan that was read, 6, 7, 9, 11 or 10, or 0.
-fn domain_refusal(p: Plan, d: NewDomain) -> u8
-    ensures { result ≡ first_of (domain_table p.period (get_or p.planned (d.number - 1) false) (reserved p) (asked d)) 0 }
-{
-    if is_no_number(d.number) {
-        return 6;
+    if plan::is_outside(16, d.number) {
+        return Err(Fault::NoNumber);
     }
     let at = (d.number - 1) as usize;
     if p.planned[at] {
-        return 7;
+        return Err(Fault::NumberAgain);
     }
-    let period = p.period as u64;
-    if any_above(period, d) {
-        return 9;
+    let period = u64::from(p.period);
+    if plan::any_above(period, d.reservation, d.reclaimcap, d.writebackcap) {
+        return Err(Fault::AbovePeriod);
     }
-    if d.writebackcap < d.writebackreservation {
-        return 11;
+    if plan::is_above_cap(d.writebackcap, d.writebackreservation) {
+        return Err(Fault::AboveCap);
     }
-    let sum = plan::all_reserved(p) as u64;
+    let sum = u64::from(plan::all_reserved(p));
     if period < sum + (d.reservation + d.writebackreservation) {
-        return 10;
+        return Err(Fault::Sum);
     }
-    0
+    Ok(())
 }
 
-// The highest record below a count that is not listed, or 0.
-fn highest_free(l: Indices, count: usize) -> usize
-    requires { l.count ≤ 16 }
-    ensures { result ≡ highest (unlisted_in l.count l.records) count }
+// The highest record below a count that is not listed, if that is not record 0.
+fn highest_free(l: Indices, count: usize) -> Option<usize>
+    ensures { IsHighest (unlisted_in l.count l.records) count result }
 {
-    let mut k = count;
-    while 0 < k {
-        k -= 1;
+    for k in (1..count).rev() {
         if !chain::is_listed(l, k) {
-            return k;
+            return Some(k);
         }
     }
-    0
+    None
 }
 
 // The record of the domain, with link 0: its numbers are in range, and so they fit.
@@ -95,37 +79,18 @@ fn new_record(d: NewDomain, period: u16) -> [u8; 16]
 }
 
 // Overwrites the highest record that is not on the chain, and puts it last on the chain.
-pub fn add_domain(file: &mut [u8], d: NewDomain) -> Refusal
-    ensures value { result ≡ add_refusal file.old (asked d) }
+pub fn add_domain(file: &mut [u8], d: NewDomain) -> Result<(), EditFault>
+    ensures value { edit_refusal_by result ≡ add_refusal file.old (asked d) }
     ensures file_after { file.new ≡ added file.old (asked d) }
 {
-    let r = plan::read(file);
-    if r.refused != 0 {
-        return Refusal {
-            refused: r.refused,
-            place: r.place,
-        };
-    }
-    let n = domain_refusal(r.plan, d);
-    if n != 0 {
-        return Refusal {
-            refused: n,
-            place: 0,
-        };
-    }
+    let p = plan::read(file)?;
+    check_domain(p, d)?;
     let l = chain::list_chain(file);
-    let k = highest_free(l, file.len() / 16);
-    if k == 0 {
-        return Refusal {
-            refused: 71,
-            place: 0,
-        };
-    }
-    let bytes = new_record(d, r.plan.period);
+    let Some(k) = highest_free(l, file.len() / 16) else {
+        return Err(EditFault::NoRoom);
+    };
+    let bytes = new_record(d, p.period);
     let q = l.records[l.count];
     records::rewrite(file, q, k as u16, k, bytes);
-    Refusal {
-        refused: 0,
-        place: 0,
-    }
+    Ok(())
 }

@@ -6,14 +6,17 @@ ghost use Rattle.plan.specs.Chain.{link_of, chain_of};
 ghost use Rattle.plan.specs.Reading.{head_table};
 ghost use Rattle.edit.specs.Inner.{Lists};
 
-// Record 0 and records of a chain, in chain order: the first `count + 1` of the seventeen.
+// Record 0 and records of a chain, in chain order: the first `count + 1` of the seventeen. An array with its count, since
+// there is no heap here to keep a Vec.
 #[derive(Clone, Copy)]
 pub struct Indices {
     pub count: usize,
     pub records: [usize; 17],
+    ghost few: { count ≤ 16 },
 }
 
-// The link of record k.
+// The link of record k. (That the file is as long as its records is required here and in the files beside this one, of bytes that a
+// caller lends and keeps: a type for them would have to be made of each part anew.)
 pub(crate) fn link_of(file: &[u8], k: usize) -> u16
     requires { 16 * k + 16 ≤ length file.now }
     ensures { result ≡ link_of file.now k }
@@ -30,11 +33,8 @@ pub(crate) fn list_first(file: &[u8], count: usize) -> Indices
     ensures { Lists (take count (chain_of file.now)) result.count result.records }
 {
     let mut records = [0; 17];
-    let mut k = 0;
-    while k < count {
-        let next = link_of(file, records[k]) as usize;
-        k += 1;
-        records[k] = next;
+    for k in 0..count {
+        records[k + 1] = usize::from(link_of(file, records[k]));
     }
     Indices { count, records }
 }
@@ -50,15 +50,7 @@ pub(crate) fn list_chain(file: &[u8]) -> Indices
 
 // Is record k among those listed? Record 0 is.
 pub(crate) fn is_listed(l: Indices, k: usize) -> bool
-    requires { l.count ≤ 16 }
     ensures { result ≡ has k (take (l.count + 1) l.records) }
 {
-    let mut j = 0;
-    while j <= l.count {
-        if l.records[j] == k {
-            return true;
-        }
-        j += 1;
-    }
-    false
+    l.records[..=l.count].contains(&k)
 }

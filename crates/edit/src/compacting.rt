@@ -1,6 +1,7 @@
 // Compacting a plan file: record 0 and the chain's records are gathered, and then each goes through the part of the file that
 // it fills.
 ghost use Rattle.std.specs.Prelude.{◌≡◌, cond, ◌≤◌, leb, length};
+ghost use Rattle.plan.specs.Value.{refusal_by};
 ghost use Rattle.plan.specs.Records.{record_at};
 ghost use Rattle.plan.specs.Chain.{chain_of};
 ghost use Rattle.plan.specs.Writing.{next_index};
@@ -11,7 +12,7 @@ ghost use Rattle.edit.specs.Inner.{Lists, Gathers};
 
 use crate::chain::Indices;
 use crate::{chain, records};
-use plan::Refusal;
+use plan::Refused;
 
 // Record 0 and the records of the chain, one after the other.
 fn gather(file: &[u8], l: Indices) -> [u8; 272]
@@ -19,13 +20,10 @@ fn gather(file: &[u8], l: Indices) -> [u8; 272]
     ensures { Gathers file.now l.count result }
 {
     let mut store = [0; 272];
-    let mut k = 0;
-    while k <= l.count {
-        let i = l.records[k];
-        let bytes = records::copy_record(plan::record_part(file, i));
+    for k in 0..l.count + 1 {
+        let bytes = records::copy_record(plan::record_part(file, l.records[k]));
         let at = 16 * k;
         plan::put_record(&mut store[at..at + 16], bytes);
-        k += 1;
     }
     store
 }
@@ -48,29 +46,21 @@ fn move_records(file: &mut [u8], store: [u8; 272], n: usize)
     requires { (n ≤ 16) × Whole (length file.old) × Gathers file.old n store }
     ensures { file.new ≡ laid (moved_record file.old) file.old }
 {
-    let count = file.len() / 16;
-    let mut k = 0;
-    while k < count {
+    for k in 0..file.len() / 16 {
         let bytes = moved_bytes(&store, n, k);
         let at = 16 * k;
         plan::put_record(&mut file[at..at + 16], bytes);
-        k += 1;
     }
 }
 
 // Moves the chain's records to the front in chain order, relinks them and zeroes the others.
-pub fn compact(file: &mut [u8]) -> Refusal
-    ensures value { result ≡ compact_refusal file.old }
+pub fn compact(file: &mut [u8]) -> Result<(), Refused>
+    ensures value { refusal_by result ≡ compact_refusal file.old }
     ensures file_after { file.new ≡ compacted file.old }
 {
-    let r = plan::read_with_leftovers(file);
-    if r.refused == 0 {
-        let l = chain::list_chain(file);
-        let store = gather(file, l);
-        move_records(file, store, l.count);
-    }
-    Refusal {
-        refused: r.refused,
-        place: r.place,
-    }
+    plan::read_with_leftovers(file)?;
+    let l = chain::list_chain(file);
+    let store = gather(file, l);
+    move_records(file, store, l.count);
+    Ok(())
 }

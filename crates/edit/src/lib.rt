@@ -7,7 +7,8 @@
 // compact(file): moves the chain's records to the front in chain order, relinks them and zeroes the others, for any bytes; or a
 // refusal of reading by the earlier rule, which takes leftovers.
 // rescue(file): ends the chain at the first link that draws 4 to 9 or 11, drops records from its end while the reservations sum
-// above the period, and zeroes the records off it, for any bytes; or a refusal 1 to 3. Its output is accepted.
+// above the period, and zeroes the records off it, for any bytes, and counts the records kept; or a refusal 1 to 3. Its output is
+// accepted.
 //
 // A refused edit keeps every byte.
 #![tactic(auto)]
@@ -16,10 +17,12 @@ mod adding;
 mod chain;
 mod compacting;
 mod dropping;
+mod faults;
 mod records;
 mod rescuing;
 
 pub use adding::{NewDomain, add_domain};
 pub use compacting::compact;
 pub use dropping::drop_domain;
-pub use rescuing::{Rescued, rescue};
+pub use faults::EditFault;
+pub use rescuing::rescue;

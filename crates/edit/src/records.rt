@@ -11,11 +11,7 @@ pub(crate) fn copy_record(b: &[u8]) -> [u8; 16]
     ensures { result ≡ b.now }
 {
     let mut out = [0; 16];
-    let mut i = 0;
-    while i < 16 {
-        out[i] = b[i];
-        i += 1;
-    }
+    out.copy_from_slice(b);
     out
 }
 
@@ -23,18 +19,20 @@ pub(crate) fn copy_record(b: &[u8]) -> [u8; 16]
 pub(crate) fn relink(b: [u8; 16], k: usize, l: u16) -> [u8; 16]
     ensures { result ≡ relinked k l b }
 {
+    let bytes = l.to_le_bytes();
     let mut out = b;
     if k == 0 {
-        out[2] = (l % 256) as u8;
-        out[3] = (l / 256 % 256) as u8;
+        out[2] = bytes[0];
+        out[3] = bytes[1];
         return out;
     }
-    out[0] = (l % 256) as u8;
-    out[1] = (l / 256 % 256) as u8;
+    out[0] = bytes[0];
+    out[1] = bytes[1];
     out
 }
 
-// Replaces record k: its sixteen bytes are lent on to the record writer.
+// Replaces record k: its sixteen bytes are lent on to the record writer. (That the length is a file's is required, here and below, of
+// bytes that the caller lends and keeps: a type for them would have to be made of each part anew.)
 fn write_record(file: &mut [u8], k: usize, bytes: [u8; 16])
     requires { Whole (length file.old) × (k < record_count file.old) }
     ensures { file.new ≡ laid (replaced file.old k bytes) file.old }

@@ -1,9 +1,8 @@
 -- Edits of plan A of document 01 and of its neighbours, with the answer and the file afterwards, worked by hand from the documents.
 -- Assumes nothing.
 use Rattle.std.specs.Prelude.{ℕ, ◌≡◌, List, [], ◌∷◌, ◌++◌, map, true, false}
-use Rattle.plan.specs.Value.{refusal}
+use Rattle.plan.specs.Value.{refusal, Refusal}
 use Rattle.plan.specs.declared.value.Domain.{Domain}
-use Rattle.plan.specs.declared.value.Refusal.{Refusal}
 use Rattle.edit.specs.Dropping.{drop_refusal, dropped}
 use Rattle.edit.specs.Adding.{add_refusal, added}
 use Rattle.edit.specs.Compaction.{compact_refusal, compacted}

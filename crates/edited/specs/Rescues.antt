@@ -1,8 +1,7 @@
 -- Rescues of plan A's neighbours, with the answer and the file afterwards, worked by hand from document 02, Point 14.
 -- Assumes nothing.
 use Rattle.std.specs.Prelude.{ℕ, ◌≡◌, List, [], ◌∷◌, ◌++◌, map, drop}
-use Rattle.edit.specs.Rescue.{rescue_answer, rescued}
-use Rattle.edit.specs.declared.rescuing.Rescued.{Rescued}
+use Rattle.edit.specs.Rescue.{rescue_answer, rescued, Rescued}
 use Rattle.edited.specs.Files.{head, record16, zero16, leftover, one, two, three, four, plan_a}
 
 -- what a rescue answers, and the file afterwards

@@ -3,11 +3,10 @@
 use Rattle.std.specs.Prelude.{ℕ, ◌≡◌, List, cond, length, set, eqb}
 use Rattle.regulator.specs.Turn.{distance, rulings}
 use Rattle.regulator.specs.Grant.{grant, onward}
-use Rattle.regulator.specs.Close.{without_counts, ended}
+use Rattle.regulator.specs.Close.{without_counts, ended, Answer}
 use Rattle.regulator.specs.Refusals.{slot_refusal}
 use Rattle.regulator.specs.Calls.{slot_of, verdicts_in}
 use Rattle.regulator.specs.declared.state.State.{State}
-use Rattle.regulator.specs.declared.close.Answer.{Answer}
 use Rattle.engine.specs.Masks.{passing_mask, lowest_bit}
 
 -- it "grants the lowest set bit at or after the turn, or else the lowest of all"

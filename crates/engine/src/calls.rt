@@ -1,13 +1,15 @@
-// The slot call by masks, for any state and any arguments. What is not decided by masks is the first engine's.
+// The slot call by masks, for any state and any arguments. What is not decided by masks is the first engine's. The calls stand beside
+// the first engine's and do not go into one generic call: each is proved by itself, and then that they answer alike.
 ghost use Rattle.std.specs.Prelude.{◌≡◌, true, length};
 ghost use Rattle.regulator.specs.State.{adds_up};
 ghost use Rattle.regulator.specs.Verdict.{blocked as blocked_in};
 ghost use Rattle.regulator.specs.Turn.{granted as granted_in, steps_of, verdicts as verdicts_of};
-ghost use Rattle.regulator.specs.Refusals.{slot_refusal};
-ghost use Rattle.regulator.specs.Calls.{one_slot, slot_of, verdicts_in};
+ghost use Rattle.regulator.specs.Refusals.{slot_refusal, slot_refusal_by};
+ghost use Rattle.regulator.specs.Close.{slot_by};
+ghost use Rattle.regulator.specs.Calls.{one_slot, slot_of, verdicts_in, answer_by};
 
 use super::{masks, turn};
-use regulator::{Answer, State};
+use regulator::{Slot, SlotFault, State};
 
 // What masks tell of a slot: whether it is blocked, the number that is granted, or 17, and its steps.
 #[derive(Clone, Copy)]
@@ -24,28 +26,21 @@ fn ask(s: State, offers: &[u8]) -> Asked
     ensures number { result.number ≡ granted_in s offers.now }
     ensures steps { result.steps ≡ steps_of s offers.now }
 {
-    let p = s.plan;
-    let claim = s.claim;
-    let back = s.writebackclaim;
-    let reclaimed = s.reclaimed;
-    let writebacks = s.writebacks;
-    let reclaimcap = p.reclaimcap;
-    let writebackcap = p.writebackcap;
     let access = masks::offering(offers, 1);
     let writeback = masks::offering(offers, 2);
-    let m = masks::masks_of(claim, back, reclaimed, writebacks, reclaimcap, writebackcap);
-    let wait = masks::waiting(access, writeback, m.has, m.back);
-    let spoken = s.decided as u32 + (table::total(claim) + table::total(back));
-    let blocked = masks::is_blocked(p.period as u32, spoken, wait);
-    let pass = masks::passing(
-        wait,
-        access,
-        writeback,
-        m.may,
-        m.room,
-        s.stock != 0,
-        blocked,
+    let m = masks::masks_of(
+        s.claim,
+        s.writebackclaim,
+        s.reclaimed,
+        s.writebacks,
+        s.plan.reclaimcap,
+        s.plan.writebackcap,
     );
+    let wait = masks::waiting(access, writeback, m.has, m.back);
+    let claims = table::total(s.claim) + table::total(s.writebackclaim);
+    let spoken = u32::from(s.decided) + claims;
+    let blocked = masks::is_blocked(u32::from(s.plan.period), spoken, wait);
+    let pass = masks::passing(wait, access, writeback, m, s.stock != 0, blocked);
     let picked = turn::pick(pass, s.turn as u32);
     Asked {
         blocked,
@@ -55,33 +50,29 @@ fn ask(s: State, offers: &[u8]) -> Asked
 }
 
 // A slot call on a state that adds up, as every state of a run does, with no buffer for the verdicts.
-pub fn run_slot(s: State, offers: &[u8]) -> Answer
+pub fn run_slot(s: State, offers: &[u8]) -> Result<Slot, SlotFault>
     requires { adds_up s ≡ true }
-    ensures { result ≡ slot_of s offers.now 17 }
+    ensures { answer_by s result ≡ slot_of s offers.now 17 }
 {
-    let n = regulator::check_slot(s, offers, 17);
-    if n != 0 {
-        return regulator::without_counts(n, s, 0);
-    }
+    regulator::check_slot(s, offers, 17)?;
     let a = ask(s, offers);
-    regulator::grant_slot(s, offers, a.number, a.steps)
+    Ok(regulator::grant_slot(s, offers, a.number, a.steps))
 }
 
-// The refusal of a slot call, or 0.
-fn refusal(s: State, offers: &[u8], room: usize) -> u8
-    ensures { result ≡ slot_refusal s offers.now room }
+// Is a slot call refused?
+fn check(s: State, offers: &[u8], room: usize) -> Result<(), SlotFault>
+    ensures { slot_refusal_by result ≡ slot_refusal s offers.now room }
 {
-    if regulator::adds_up(s) {
-        regulator::check_slot(s, offers, room)
-    } else {
-        30
+    if !regulator::adds_up(s) {
+        return Err(SlotFault::Unsound);
     }
+    regulator::check_slot(s, offers, room)
 }
 
 // One slot, of a call that is not refused.
-fn decide(s: State, offers: &[u8], verdicts: &mut [u8]) -> Answer
+fn decide(s: State, offers: &[u8], verdicts: &mut [u8]) -> Slot
     requires { slot_refusal s offers.now (length verdicts.old) ≡ 0 }
-    ensures answer { result ≡ one_slot s offers.now }
+    ensures answer { slot_by result ≡ one_slot s offers.now }
     ensures shown { verdicts.new ≡ verdicts_of s offers.now }
 {
     let a = ask(s, offers);
@@ -91,13 +82,10 @@ fn decide(s: State, offers: &[u8], verdicts: &mut [u8]) -> Answer
 }
 
 // One slot: the verdicts go to the lent buffer.
-pub fn slot(s: State, offers: &[u8], verdicts: &mut [u8]) -> Answer
-    ensures answer { result ≡ slot_of s offers.now (length verdicts.old) }
+pub fn slot(s: State, offers: &[u8], verdicts: &mut [u8]) -> Result<Slot, SlotFault>
+    ensures answer { answer_by s result ≡ slot_of s offers.now (length verdicts.old) }
     ensures shown { verdicts.new ≡ verdicts_in s offers.now verdicts.old }
 {
-    let n = refusal(s, offers, verdicts.len());
-    if n != 0 {
-        return regulator::without_counts(n, s, 0);
-    }
-    decide(s, offers, verdicts)
+    check(s, offers, verdicts.len())?;
+    Ok(decide(s, offers, verdicts))
 }

@@ -25,18 +25,14 @@ pub fn with_bit(m: u32, n: u32, on: bool) -> u32
 fn unlike(a: [u16; 16], b: [u16; 16]) -> u32
     ensures { Marks result (λ (k : ℕ). not (eqb (nth a k) (nth b k))) }
 {
-    let mut m: u32 = 0;
-    let mut n: u32 = 1;
-    let mut i = 0;
-    while i < 16 {
-        m = with_bit(m, n, a[i] != b[i]);
-        n += 1;
-        i += 1;
+    let mut m = 0;
+    for i in 0..16 {
+        m = with_bit(m, i as u32 + 1, a[i] != b[i]);
     }
     m
 }
 
-// The masks of a state's tables. Best effort has no cap.
+// The masks of a state's tables. Best effort has no cap. Six tables and no State: a State would ask more of those who call it.
 pub fn masks_of(
     claim: [u16; 16],
     writebackclaim: [u16; 16],
@@ -47,7 +43,7 @@ pub fn masks_of(
 ) -> Masks
     ensures { Marked claim writebackclaim reclaimed writebacks reclaimcap writebackcap result.has result.back result.may result.room }
 {
-    let none: [u16; 16] = [0; 16];
+    let none = [0; 16];
     let room = unlike(writebacks, writebackcap);
     Masks {
         has: unlike(claim, none),
@@ -64,13 +60,9 @@ pub(crate) fn offering(offers: &[u8], kind: u8) -> u32
     ensures bits { (n : ℕ) → bit result n ≡ eqb (nth offers.now n) kind }
     ensures small { result < 131072 }
 {
-    let mut m: u32 = 0;
-    let mut n: u32 = 0;
-    let mut i = 0;
-    while i < 17 {
-        m = with_bit(m, n, offers[i] == kind);
-        n += 1;
-        i += 1;
+    let mut m = 0;
+    for (n, &offer) in offers.iter().enumerate() {
+        m = with_bit(m, n as u32, offer == kind);
     }
     m
 }
@@ -98,22 +90,21 @@ pub fn passing(
     wait: u32,
     access: u32,
     writeback: u32,
-    may: u32,
-    room: u32,
+    masks: Masks,
     stock: bool,
     blocked: bool,
 ) -> u32
     requires wait_bound { wait < 131072 }
     requires access_bound { access < 131072 }
     requires writeback_bound { writeback < 131072 }
-    ensures bits { (n : ℕ) → bit result n ≡ pass_at (bit wait n) (free_at (eqb n 0) (bit access n) (bit writeback n) (bit may n) (bit room n) stock) blocked }
+    ensures bits { (n : ℕ) → bit result n ≡ pass_at (bit wait n) (free_at (eqb n 0) (bit access n) (bit writeback n) (bit masks.may n) (bit masks.room n) stock) blocked }
     ensures small { result < 131072 }
 {
     if blocked {
         return wait;
     }
     if stock {
-        return wait | ((access & (may | 1)) | (writeback & room));
+        return wait | ((access & (masks.may | 1)) | (writeback & masks.room));
     }
-    wait | ((access & 1) | (writeback & room))
+    wait | ((access & 1) | (writeback & masks.room))
 }

@@ -2,7 +2,8 @@
 ghost use Rattle.std.specs.Prelude.{◌≡◌, cond, ◌<◌, ◌≤◌, eqb};
 ghost use Rattle.engine.specs.Inner.{picked_of};
 
-// The number that is granted, or 17, and how many were asked and passed by before it.
+// The number that is granted, or 17, and how many were asked and passed by before it. The regulator has one of its own, whose number
+// is an index: a type for both would be a parameter more, and no plainer.
 #[derive(Clone, Copy)]
 pub struct Picked {
     pub number: u32,

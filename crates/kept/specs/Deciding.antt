@@ -4,7 +4,7 @@ use Rattle.std.specs.Prelude.{◌≡◌, List, ℕ}
 use Rattle.regulator.specs.Turn.{granted}
 use Rattle.regulator.specs.Grant.{decided_of}
 use Rattle.engine.specs.Inner.{Given}
-use Rattle.kept.specs.Tables.{Tables}
+use Rattle.kept.specs.declared.tables.Tables.{Tables}
 use Rattle.kept.specs.Numbers.{Rest, state_of, Of}
 use Rattle.kept.specs.declared.numbers.Numbers.{Numbers}
 

@@ -6,7 +6,7 @@ use Rattle.table.specs.Sums.{nth}
 use Rattle.bits.specs.Bits.{bit}
 use Rattle.regulator.specs.Turn.{after}
 use Rattle.regulator.specs.Grant.{grant, onward}
-use Rattle.kept.specs.Tables.{Tables}
+use Rattle.kept.specs.declared.tables.Tables.{Tables}
 use Rattle.kept.specs.Numbers.{Rest, state_of}
 use Rattle.kept.specs.declared.numbers.Numbers.{Numbers}
 use Rattle.kept.specs.declared.tables.Taken.{Taken}
@@ -47,15 +47,15 @@ pub record Renewed (f : Numbers) (n steps : ℕ) (d : Taken) (row : Row) (ended 
   pub turn_is : r.turn ≡ after n
   pub steps_is : r.steps ≡ f.steps + steps
   pub spoken_is : r.spoken ≡ f.spoken + 1 - (d.claim + d.writebackclaim)
-  pub has_is : Refreshed f.has n ended (ltb 0 row.claim) r.has
-  pub back_is : Refreshed f.back n ended (ltb 0 row.writebackclaim) r.back
-  pub may_is : Refreshed f.may n ended (not (eqb row.reclaimed rcap)) r.may
-  pub room_is : Refreshed f.room n ended (not (eqb row.writebacks wcap)) r.room
+  pub has_is : Refreshed f.masks.has n ended (ltb 0 row.claim) r.masks.has
+  pub back_is : Refreshed f.masks.back n ended (ltb 0 row.writebackclaim) r.masks.back
+  pub may_is : Refreshed f.masks.may n ended (not (eqb row.reclaimed rcap)) r.masks.may
+  pub room_is : Refreshed f.masks.room n ended (not (eqb row.writebacks wcap)) r.masks.room
 
 -- What passing tells of domain n: without writeback and claim it may reclaim and there is stock, and its writeback is below the cap.
 pub record Fit (f : Numbers) (n : ℕ) (writeback : Bool) : Type 0 where
-  pub may_reclaim : writeback ≡ false → bit f.has n ≡ false → (bit f.may n ≡ true) × (0 < f.stock)
-  pub has_room : writeback ≡ true → bit f.room n ≡ true
+  pub may_reclaim : writeback ≡ false → bit f.masks.has n ≡ false → (bit f.masks.may n ≡ true) × (0 < f.stock)
+  pub has_room : writeback ≡ true → bit f.masks.room n ≡ true
 
 -- The state after is the regulator's after a grant to domain n, for whatever else the state holds and whatever the others offer.
 pub record Gives (writeback n steps : ℕ) (f : Numbers) (t : Tables) (r : Numbers) (t' : Tables) : Type 0 where
@@ -73,10 +73,7 @@ rested f steps =
       turn = f.turn;
       steps = f.steps + steps;
       spoken = f.spoken + 1;
-      has = f.has;
-      back = f.back;
-      may = f.may;
-      room = f.room;
+      masks = f.masks;
     }
 
 abbrev pub served : Numbers → (steps : ℕ) → Numbers
@@ -90,8 +87,5 @@ served f steps =
       turn = 1;
       steps = f.steps + steps;
       spoken = f.spoken + 1;
-      has = f.has;
-      back = f.back;
-      may = f.may;
-      room = f.room;
+      masks = f.masks;
     }

@@ -7,7 +7,7 @@ use Rattle.regulator.specs.declared.state.State.{State}
 use Rattle.regulator.specs.declared.state.Waiting.{Waiting}
 use Rattle.regulator.specs.declared.forecast.Tracked.{Tracked}
 use Rattle.engine.specs.Inner.{Marked}
-use Rattle.kept.specs.Tables.{Tables, tables}
+use Rattle.kept.specs.declared.tables.Tables.{Tables}
 use Rattle.kept.specs.declared.numbers.Numbers.{Numbers}
 
 -- what no slot changes
@@ -44,7 +44,14 @@ abbrev pub rest_of : State → Rest
 rest_of s = record { plan = s.plan; yielded = s.yielded; waiting = s.waiting; tracked = s.tracked }
 
 abbrev pub tables_of : State → Tables
-tables_of s = tables s.claim s.reserved s.reclaimed s.writebacks s.writebackclaim
+tables_of s =
+    record {
+      claim = s.claim;
+      reserved = s.reserved;
+      reclaimed = s.reclaimed;
+      writebacks = s.writebacks;
+      writebackclaim = s.writebackclaim;
+    }
 
 -- the period and the caps that are lent are the plan's
 pub record Of (x : Rest) (period : ℕ) (reclaimcap writebackcap : List ℕ) : Type 0 where
@@ -54,7 +61,7 @@ pub record Of (x : Rest) (period : ℕ) (reclaimcap writebackcap : List ℕ) : T
 
 -- The kept masks are those of the tables, and `spoken` is what is spoken for of the period: the slots decided and both claims.
 pub record Kept (reclaimcap writebackcap : List ℕ) (f : Numbers) (t : Tables) : Type 0 where
-  pub marked : Marked t.claim t.writebackclaim t.reclaimed t.writebacks reclaimcap writebackcap f.has f.back f.may f.room
+  pub marked : Marked t.claim t.writebackclaim t.reclaimed t.writebacks reclaimcap writebackcap f.masks.has f.masks.back f.masks.may f.masks.room
   pub spoken_is : f.spoken ≡ f.decided + (sum t.claim + sum t.writebackclaim)
 
 -- What a state that adds up gives, with T below P: lengths, bounds, and that a domain with writeback claim left is below its writeback

@@ -1,21 +1,10 @@
 -- The tables that a slot changes, and one domain's row of them at a grant.
 -- Assumes nothing.
-use Rattle.std.specs.Prelude.{◌≡◌, List, ℕ, ◌+◌, ◌-◌, ◌≤◌}
+use Rattle.std.specs.Prelude.{◌≡◌, ℕ, ◌+◌, ◌-◌, ◌≤◌}
 use Rattle.table.specs.Sums.{nth, raised, lowered}
+use Rattle.kept.specs.declared.tables.Tables.{Tables}
 use Rattle.kept.specs.declared.tables.Taken.{Taken}
 use Rattle.kept.specs.declared.tables.Row.{Row}
-
--- five lists of a state, sixteen numbers each
-pub record Tables : Type 0 where
-  pub claim : List ℕ
-  pub reserved : List ℕ
-  pub reclaimed : List ℕ
-  pub writebacks : List ℕ
-  pub writebackclaim : List ℕ
-
-abbrev pub tables : (claim reserved reclaimed writebacks writebackclaim : List ℕ) → Tables
-tables claim reserved reclaimed writebacks writebackclaim =
-    record { claim = claim; reserved = reserved; reclaimed = reclaimed; writebacks = writebacks; writebackclaim = writebackclaim }
 
 -- what a grant takes is at most 1 of each, and at most 1 of both claims
 pub record Few (d : Taken) : Type 0 where

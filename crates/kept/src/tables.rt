@@ -1,7 +1,20 @@
-// The lent tables: one number raised or lowered, and what a grant makes of one domain's row.
-ghost use Rattle.std.specs.Prelude.{◌≡◌, ◌+◌, ◌-◌, ◌<◌, ◌≤◌, length};
-ghost use Rattle.table.specs.Sums.{nth, raised, lowered};
-ghost use Rattle.kept.specs.Tables.{tables, Few, Shifted};
+// The tables that are lent, and what a grant makes of one domain's row of them.
+ghost use Rattle.std.specs.Prelude.{◌≡◌, ◌<◌, ◌≤◌};
+ghost use Rattle.table.specs.Sums.{nth};
+ghost use Rattle.kept.specs.Numbers.{tables_of};
+ghost use Rattle.kept.specs.Tables.{Few, Shifted};
+
+use regulator::State;
+
+// Five tables of a state, each at domain number - 1.
+#[derive(Clone, Copy)]
+pub struct Tables {
+    pub claim: [u16; 16],
+    pub reserved: [u16; 16],
+    pub reclaimed: [u16; 16],
+    pub writebacks: [u16; 16],
+    pub writebackclaim: [u16; 16],
+}
 
 // What a grant to a domain takes, 1 or 0 of each: of its claim, of the stock, of its writeback claim; and 1 if it is a writeback.
 #[derive(Clone, Copy)]
@@ -21,55 +34,48 @@ pub(crate) struct Row {
     pub writebackclaim: u16,
 }
 
-// Lowers the number at index i by k, and tells it.
-fn lower(a: &mut [u16; 16], i: usize, k: u16) -> u16
-    requires { (i < 16) × (length a.old ≡ 16) × (k ≤ nth a.old i) }
-    ensures list { a.new ≡ lowered a.old i k }
-    ensures told { result ≡ nth a.old i - k }
-{
-    let x = a[i] - k;
-    a[i] = x;
-    x
-}
+impl Tables {
+    // The tables of a state.
+    pub fn of(s: State) -> Tables
+        ensures { result ≡ tables_of s }
+    {
+        let State {
+            claim,
+            reserved,
+            reclaimed,
+            writebacks,
+            writebackclaim,
+            ..
+        } = s;
+        Tables {
+            claim,
+            reserved,
+            reclaimed,
+            writebacks,
+            writebackclaim,
+        }
+    }
 
-// Raises the number at index i by k, and tells it.
-fn raise(a: &mut [u16; 16], i: usize, k: u16) -> u16
-    requires { (i < 16) × (length a.old ≡ 16) × (nth a.old i + k < 65536) }
-    ensures list { a.new ≡ raised a.old i k }
-    ensures told { result ≡ nth a.old i + k }
-{
-    let x = a[i] + k;
-    a[i] = x;
-    x
-}
-
-// The tables after a grant to the domain at index i, and its row then.
-pub(crate) fn shift(
-    i: usize,
-    taken: Taken,
-    claim: &mut [u16; 16],
-    reserved: &mut [u16; 16],
-    reclaimed: &mut [u16; 16],
-    writebacks: &mut [u16; 16],
-    writebackclaim: &mut [u16; 16],
-) -> Row
-    requires i_bound { (i < 16) × Few taken }
-    requires claim_len { (length claim.old ≡ 16) × (taken.claim ≤ nth claim.old i) }
-    requires reserved_len { (length reserved.old ≡ 16) × (nth reserved.old i ≤ 4096) }
-    requires reclaimed_len { (length reclaimed.old ≡ 16) × (nth reclaimed.old i ≤ 4096) }
-    requires writebacks_len { (length writebacks.old ≡ 16) × (nth writebacks.old i ≤ 4096) }
-    requires writebackclaim_len { (length writebackclaim.old ≡ 16) × (taken.writebackclaim ≤ nth writebackclaim.old i) }
-    ensures { Shifted (tables claim.old reserved.old reclaimed.old writebacks.old writebackclaim.old) (tables claim.new reserved.new reclaimed.new writebacks.new writebackclaim.new) i taken result }
-{
-    let x = lower(claim, i, taken.claim);
-    raise(reserved, i, taken.claim);
-    let y = raise(reclaimed, i, taken.stock);
-    let z = raise(writebacks, i, taken.writeback);
-    let v = lower(writebackclaim, i, taken.writebackclaim);
-    Row {
-        claim: x,
-        reclaimed: y,
-        writebacks: z,
-        writebackclaim: v,
+    // A grant to the domain at index i: the tables after it, and the domain's row then.
+    pub(crate) fn shift(&mut self, i: usize, taken: Taken) -> Row
+        requires i_bound { (i < 16) × Few taken }
+        requires claim { taken.claim ≤ nth self.old.claim i }
+        requires reserved { nth self.old.reserved i ≤ 4096 }
+        requires reclaimed { nth self.old.reclaimed i ≤ 4096 }
+        requires writebacks { nth self.old.writebacks i ≤ 4096 }
+        requires writebackclaim { taken.writebackclaim ≤ nth self.old.writebackclaim i }
+        ensures { Shifted self.old self.new i taken result }
+    {
+        self.claim[i] -= taken.claim;
+        self.reserved[i] += taken.claim;
+        self.reclaimed[i] += taken.stock;
+        self.writebacks[i] += taken.writeback;
+        self.writebackclaim[i] -= taken.writebackclaim;
+        Row {
+            claim: self.claim[i],
+            reclaimed: self.reclaimed[i],
+            writebacks: self.writebacks[i],
+            writebackclaim: self.writebackclaim[i],
+        }
     }
 }

@@ -2,7 +2,8 @@
 use super::{cells, forecast, sums, verdict, waiting};
 
 // What a slot call tells beside verdicts and counts: its refusal, or 0, and the numbers asked before the one granted, 0 where
-// it is refused.
+// it is refused. Refusals stay the document's numbers here and in all answers of this crate: the tests compare and count them as
+// numbers.
 #[derive(Clone, Copy)]
 pub struct Decision {
     pub number: u32,
@@ -21,61 +22,35 @@ pub fn open(period: u32, domains: [u32; 96], s: &mut [u64]) -> model_plans::Told
     told
 }
 
-// 30 or 34, or 0.
-fn state_refusal(s: &[u64]) -> u32 {
-    if sums::adds_up(s) {
-        if cells::get(s, 0, cells::CLOSED) == 4294967295 {
-            34
-        } else {
-            0
-        }
-    } else {
-        30
+// 30 or 34.
+fn check_state(s: &[u64]) -> Result<(), u32> {
+    if !sums::adds_up(s) {
+        return Err(30);
     }
+    if cells::get(s, 0, cells::CLOSED) == u64::from(u32::MAX) {
+        return Err(34);
+    }
+    Ok(())
 }
 
-// Whether one of the offers is above 2, or else from a domain that is not planned.
-fn any_bad(s: &[u64], offers: &[u8], above: bool) -> bool {
-    let mut n: usize = 0;
-    while n < 17 {
-        if bad_offer(s, offers, n, above) {
-            return true;
-        }
-        n += 1;
-    }
-    false
+// Whether a domain that is not planned offers.
+fn unplanned(s: &[u64], offers: &[u8], n: usize) -> bool {
+    cells::get(s, n, cells::PRESENT) == 0 && verdict::offer(offers, n) != 0
 }
 
-fn bad_offer(s: &[u64], offers: &[u8], n: usize, above: bool) -> bool {
-    if above {
-        return verdict::offer(offers, n) > 2;
+// 30, 34, 31, 32 or 33.
+pub fn check_slot(s: &[u64], offers: &[u8], lent: usize) -> Result<(), u32> {
+    check_state(s)?;
+    if offers.len() != 17 || lent != 17 {
+        return Err(31);
     }
-    if n == 0 {
-        return false;
+    if offers.iter().any(|&offer| offer > 2) {
+        return Err(32);
     }
-    if cells::get(s, n, cells::PRESENT) == 0 {
-        verdict::offer(offers, n) != 0
-    } else {
-        false
+    if (1..17).any(|n| unplanned(s, offers, n)) {
+        return Err(33);
     }
-}
-
-// 30, 34, 31, 32 or 33, or 0.
-pub fn slot_refusal(s: &[u64], offers: &[u8], lent: usize) -> u32 {
-    let number = state_refusal(s);
-    if number != 0 {
-        return number;
-    }
-    if offers.len() != 17 {
-        return 31;
-    }
-    if lent != 17 {
-        return 31;
-    }
-    if any_bad(s, offers, true) {
-        return 32;
-    }
-    if any_bad(s, offers, false) { 33 } else { 0 }
+    Ok(())
 }
 
 // A domain's writeback: its writeback claim is what its writebacks leave of V.
@@ -97,42 +72,30 @@ fn access(s: &mut [u64], n: usize) {
 }
 
 // Enters the granted number, or the idle slot.
-pub fn enter(s: &mut [u64], offers: &[u8], chosen: usize) {
+pub fn enter(s: &mut [u64], offers: &[u8], chosen: Option<usize>) {
     cells::add(s, 0, cells::DECIDED, 1);
-    if chosen >= verdict::NOBODY {
+    let Some(n) = chosen else {
         cells::add(s, 0, cells::IDLE, 1);
         return;
-    }
-    cells::put(s, 0, cells::TURN, (chosen as u64 + 1) % 17);
-    if chosen == 0 {
+    };
+    cells::put(s, 0, cells::TURN, (n as u64).wrapping_add(1) % 17);
+    if n == 0 {
         cells::add(s, 0, cells::BEST, 1);
-        return;
-    }
-    if verdict::offer(offers, chosen) == 2 {
-        write_back(s, chosen);
+    } else if verdict::offer(offers, n) == 2 {
+        write_back(s, n);
     } else {
-        access(s, chosen);
+        access(s, n);
     }
 }
 
 // Puts a domain's counts; reserved is told from what is left over.
 fn put_domain_counts(s: &[u64], counts: &mut [u64], n: usize) {
     let yielded = cells::get(s, n, cells::YIELDED);
-    let used = cells::less(cells::get(s, n, cells::Q), cells::get(s, n, cells::CLAIM));
-    cells::put(counts, n, cells::RESERVED, cells::less(used, yielded));
-    cells::put(
-        counts,
-        n,
-        cells::RECLAIMED,
-        cells::get(s, n, cells::RECLAIMED),
-    );
-    cells::put(counts, n, cells::YIELDED, yielded);
-    cells::put(
-        counts,
-        n,
-        cells::WRITEBACKS,
-        cells::get(s, n, cells::WRITEBACKS),
-    );
+    let used = cells::get(s, n, cells::Q).saturating_sub(cells::get(s, n, cells::CLAIM));
+    cells::put(counts, n, cells::RESERVED, used.saturating_sub(yielded));
+    for column in [cells::RECLAIMED, cells::YIELDED, cells::WRITEBACKS] {
+        cells::put(counts, n, column, cells::get(s, n, column));
+    }
 }
 
 // Puts the counts of a period whose slots are all decided; idle is told from what is left over.
@@ -140,14 +103,12 @@ fn put_counts(s: &[u64], counts: &mut [u64]) {
     let accesses = cells::total(s, cells::RESERVED) + cells::total(s, cells::RECLAIMED);
     let passes = accesses + cells::total(s, cells::WRITEBACKS);
     let best = cells::get(s, 0, cells::BEST);
-    let others = cells::less(cells::get(s, 0, cells::PERIOD), passes);
+    let others = cells::get(s, 0, cells::PERIOD).saturating_sub(passes);
     cells::put(counts, 0, cells::BEST, best);
-    cells::put(counts, 0, cells::IDLE, cells::less(others, best));
+    cells::put(counts, 0, cells::IDLE, others.saturating_sub(best));
     cells::put(counts, 0, cells::STEPS, cells::get(s, 0, cells::STEPS));
-    let mut n: usize = 1;
-    while n <= 16 {
+    for n in 1..17 {
         put_domain_counts(s, counts, n);
-        n += 1;
     }
 }
 
@@ -157,19 +118,17 @@ fn decide(s: &mut [u64], offers: &[u8], verdicts: &mut [u8]) -> u32 {
     let steps = verdict::steps(s, chosen);
     verdict::put_verdicts(s, offers, chosen, verdicts);
     enter(s, offers, chosen);
-    cells::add(s, 0, cells::STEPS, steps as u64);
+    cells::add(s, 0, cells::STEPS, u64::from(steps));
     steps
 }
 
 // Leaves each domain its need as its claim; the rest of Q is yielded, and is the stock.
 fn foresee(s: &mut [u64]) {
-    let mut n: usize = 1;
-    while n <= 16 {
+    for n in 1..17 {
         let need = forecast::need(s, n);
-        let rest = cells::less(cells::get(s, n, cells::Q), need);
+        let rest = cells::get(s, n, cells::Q).saturating_sub(need);
         cells::put(s, n, cells::CLAIM, need);
         cells::put(s, n, cells::YIELDED, rest);
-        n += 1;
     }
     let stock = cells::total(s, cells::YIELDED);
     cells::put(s, 0, cells::STOCK, stock);
@@ -188,8 +147,7 @@ fn close(s: &mut [u64], counts: &mut [u64]) {
 // Decides a slot, or tells its refusal. The counts are all 0 where none are told.
 pub fn slot(s: &mut [u64], offers: &[u8], verdicts: &mut [u8], counts: &mut [u64]) -> Decision {
     cells::clear(counts);
-    let number = slot_refusal(s, offers, verdicts.len());
-    if number != 0 {
+    if let Err(number) = check_slot(s, offers, verdicts.len()) {
         return Decision { number, steps: 0 };
     }
     let steps = decide(s, offers, verdicts);
@@ -199,48 +157,41 @@ pub fn slot(s: &mut [u64], offers: &[u8], verdicts: &mut [u8], counts: &mut [u64
     Decision { number: 0, steps }
 }
 
-fn yield_refusal(s: &[u64], domain: u64, k: u64) -> u32 {
-    let number = state_refusal(s);
-    if number != 0 {
-        return number;
-    }
-    if domain == 0 {
-        return 21;
-    }
-    if domain > 16 {
-        return 21;
+// The domain that yields, or 30, 34, 21, 22 or 23.
+fn yielding(s: &[u64], domain: u64, k: u64) -> Result<usize, u32> {
+    check_state(s)?;
+    if domain == 0 || domain > 16 {
+        return Err(21);
     }
     let n = domain as usize;
     if cells::get(s, n, cells::PRESENT) == 0 {
-        return 21;
+        return Err(21);
     }
     if k == 0 {
-        return 22;
+        return Err(22);
     }
     if k > cells::get(s, n, cells::CLAIM) {
-        23
-    } else {
-        0
+        return Err(23);
     }
+    Ok(n)
 }
 
-// Takes a yield, or tells its refusal.
+// Takes a yield, or tells its refusal, else 0.
 pub fn take_yield(s: &mut [u64], domain: u64, k: u64) -> u32 {
-    let number = yield_refusal(s, domain, k);
-    if number != 0 {
-        return number;
+    match yielding(s, domain, k) {
+        Ok(n) => {
+            cells::take(s, n, cells::CLAIM, k);
+            cells::add(s, n, cells::YIELDED, k);
+            cells::add(s, 0, cells::STOCK, k);
+            0
+        }
+        Err(number) => number,
     }
-    let n = domain as usize;
-    cells::take(s, n, cells::CLAIM, k);
-    cells::add(s, n, cells::YIELDED, k);
-    cells::add(s, 0, cells::STOCK, k);
-    0
 }
 
 // Takes a plan that is handed in, or tells its refusal.
 pub fn hand_in(s: &mut [u64], period: u32, domains: [u32; 96]) -> model_plans::Told {
-    let number = state_refusal(s);
-    if number != 0 {
+    if let Err(number) = check_state(s) {
         return model_plans::Told {
             number,
             place: 0,

@@ -63,15 +63,18 @@ pub const KIND: usize = 12;
 
 pub const BITS: usize = 13;
 
+// The place of a word; none behind the rows or the columns.
+fn place(row: usize, column: usize) -> Option<usize> {
+    if row < ROWS && column < COLUMNS {
+        Some(COLUMNS * row + column)
+    } else {
+        None
+    }
+}
+
 // A word with all its bits, 0 where the slice has none.
 pub fn whole(s: &[u64], row: usize, column: usize) -> u64 {
-    if row < ROWS {
-        if column < COLUMNS {
-            let at = COLUMNS * row + column;
-            return if at < s.len() { s[at] } else { 0 };
-        }
-    }
-    0
+    place(row, column).map_or(0, |at| s.get(at).copied().unwrap_or(0))
 }
 
 // A word that is a number. What no 32 bits hold reads as the most that they hold: no number of a state that adds up comes
@@ -79,45 +82,34 @@ pub fn whole(s: &[u64], row: usize, column: usize) -> u64 {
 pub fn get(s: &[u64], row: usize, column: usize) -> u64
     ensures { result < 4294967296 }
 {
-    at_most_32_bits(whole(s, row, column))
-}
-
-fn at_most_32_bits(x: u64) -> u64
-    ensures { result < 4294967296 }
-{
-    if x < 4294967296 { x } else { 4294967295 }
+    whole(s, row, column).min(u64::from(u32::MAX))
 }
 
 pub fn put(s: &mut [u64], row: usize, column: usize, value: u64) {
-    if row < ROWS {
-        if column < COLUMNS {
-            let at = COLUMNS * row + column;
-            if at < s.len() {
-                s[at] = value;
-            }
-        }
+    if let Some(at) = place(row, column)
+        && at < s.len()
+    {
+        s[at] = value;
     }
 }
 
 pub fn add(s: &mut [u64], row: usize, column: usize, amount: u64) {
     let now = get(s, row, column);
-    put(s, row, column, std::num::wrapping_add_u64(now, amount));
+    put(s, row, column, now.wrapping_add(amount));
 }
 
 pub fn take(s: &mut [u64], row: usize, column: usize, amount: u64) {
     let now = get(s, row, column);
-    put(s, row, column, std::num::wrapping_sub_u64(now, amount));
+    put(s, row, column, now.wrapping_sub(amount));
 }
 
 // The sum of a column over the sixteen domains.
 pub fn total(s: &[u64], column: usize) -> u64
     ensures { result < 68719476736 }
 {
-    let mut sum: u64 = 0;
-    let mut n: usize = 0;
-    while n < 16 {
-        sum += get(s, n + 1, column);
-        n += 1;
+    let mut sum = 0;
+    for n in 1..17 {
+        sum += get(s, n, column);
     }
     sum
 }
@@ -130,20 +122,15 @@ fn plan_column(which: u32) -> usize
 }
 
 // Puts a plan's words into the rows from one on, row 0 or NEXT: the period, and the columns up to V and MARK.
+// `from` is required to have its rows inside the words: a type for it would be made and taken apart at each use.
 pub fn put_plan(s: &mut [u64], from: usize, period: u32, domains: [u32; 96])
     requires { from ≤ 17 }
 {
-    put(s, from, PERIOD, words::wider(period));
-    let mut k: u32 = 0;
-    while k < 96 {
+    put(s, from, PERIOD, u64::from(period));
+    for k in 0u32..96 {
         let row = from + (k / 6 + 1) as usize;
-        put(
-            s,
-            row,
-            plan_column(k % 6),
-            words::wider(words::word(domains, k / 6 + 1, k % 6)),
-        );
-        k += 1;
+        let word = words::word(domains, k / 6 + 1, k % 6);
+        put(s, row, plan_column(k % 6), u64::from(word));
     }
 }
 
@@ -152,55 +139,44 @@ pub fn plan_of(s: &[u64], from: usize) -> [u32; 96]
     requires { from ≤ 17 }
 {
     let mut domains = [0u32; 96];
-    let mut k: u32 = 0;
-    while k < 96 {
+    for k in 0u32..96 {
         let row = from + (k / 6 + 1) as usize;
         domains[k as usize] = get(s, row, plan_column(k % 6)) as u32;
-        k += 1;
     }
     domains
 }
 
-pub fn less(a: u64, b: u64) -> u64 {
-    if b <= a { a - b } else { 0 }
-}
-
 // The writeback claim that a domain's other words leave it: V less its writebacks, or 0 if they exceed it.
 pub fn write_claim(s: &[u64], n: usize) -> u64 {
-    less(get(s, n, V), get(s, n, WRITEBACKS))
+    get(s, n, V).saturating_sub(get(s, n, WRITEBACKS))
 }
 
 // Starts a domain's period: its claims from Q and V, and the other words of the period at 0; nothing is foreseen yet.
 fn start_domain(s: &mut [u64], n: usize) {
     let quota = get(s, n, Q);
     put(s, n, CLAIM, quota);
-    put(s, n, RESERVED, 0);
-    put(s, n, RECLAIMED, 0);
-    put(s, n, YIELDED, 0);
-    put(s, n, WRITEBACKS, 0);
+    for column in [RESERVED, RECLAIMED, YIELDED, WRITEBACKS] {
+        put(s, n, column, 0);
+    }
     let writes = write_claim(s, n);
     put(s, n, WRITECLAIM, writes);
 }
 
+fn start_domains(s: &mut [u64]) {
+    for n in 1..17 {
+        start_domain(s, n);
+    }
+}
+
 // Starts a period: all words of the period but the turn.
 pub fn start_period(s: &mut [u64]) {
-    put(s, 0, DECIDED, 0);
-    put(s, 0, IDLE, 0);
-    put(s, 0, BEST, 0);
-    put(s, 0, STOCK, 0);
-    put(s, 0, STEPS, 0);
-    let mut n: usize = 1;
-    while n <= 16 {
-        start_domain(s, n);
-        n += 1;
+    for column in [DECIDED, IDLE, BEST, STOCK, STEPS] {
+        put(s, 0, column, 0);
     }
+    start_domains(s);
 }
 
 // Sets every word to 0.
 pub fn clear(s: &mut [u64]) {
-    let mut k: usize = 0;
-    while k < s.len() {
-        s[k] = 0;
-        k += 1;
-    }
+    s.fill(0);
 }

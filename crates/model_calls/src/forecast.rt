@@ -2,12 +2,12 @@
 // alike: in column KIND 0 for none, 1 for a number, whose bits stand in BITS, and 2 for a NaN.
 use super::{cells, floats};
 
-// The estimate of a domain that has one.
-fn estimate(s: &[u64], n: usize) -> f64 {
-    if cells::get(s, n, cells::KIND) == floats::NUMBER {
-        floats::float_of(cells::whole(s, n, cells::BITS))
-    } else {
-        0.0 / 0.0
+// The estimate of a domain, if it has one.
+fn estimate(s: &[u64], n: usize) -> Option<f64> {
+    match cells::get(s, n, cells::KIND) {
+        0 => None,
+        floats::NUMBER => Some(floats::float_of(cells::whole(s, n, cells::BITS))),
+        _ => Some(f64::NAN),
     }
 }
 
@@ -31,20 +31,14 @@ fn learn_one(s: &mut [u64], n: usize) {
     }
     let accesses = cells::get(s, n, cells::RESERVED) + cells::get(s, n, cells::RECLAIMED);
     let passes = std::num::nearest_u64_to_f64(accesses);
-    if cells::get(s, n, cells::KIND) == 0 {
-        put_estimate(s, n, passes);
-    } else {
-        let z = estimate(s, n);
-        put_estimate(s, n, moved(z, passes));
-    }
+    let next = estimate(s, n).map_or(passes, |z| moved(z, passes));
+    put_estimate(s, n, next);
 }
 
 // The estimates after a period whose words still stand.
 pub fn learn(s: &mut [u64]) {
-    let mut n: usize = 1;
-    while n <= 16 {
+    for n in 1..17 {
         learn_one(s, n);
-        n += 1;
     }
 }
 
@@ -53,6 +47,7 @@ pub fn learn(s: &mut [u64]) {
 pub fn least_above(z: f64, most: u64) -> u64 {
     let mut low: u64 = 0;
     let mut high = most;
+    // A search by halves counts no index.
     while low < high {
         let middle = low + (high - low) / 2;
         if std::num::nearest_u64_to_f64(middle) >= z {
@@ -67,9 +62,5 @@ pub fn least_above(z: f64, most: u64) -> u64 {
 // What a domain needs of its Q: all of it where it has no estimate.
 pub fn need(s: &[u64], n: usize) -> u64 {
     let quota = cells::get(s, n, cells::Q);
-    if cells::get(s, n, cells::KIND) == 0 {
-        quota
-    } else {
-        least_above(estimate(s, n), quota)
-    }
+    estimate(s, n).map_or(quota, |z| least_above(z, quota))
 }

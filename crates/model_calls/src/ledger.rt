@@ -7,7 +7,6 @@
 ghost use Rattle.std.specs.Prelude.{◌+◌, ◌<◌, ◌≤◌};
 
 use super::{cells, forecast, verdict, waiting};
-use model_plans::words;
 
 const ASKING: usize = 0;
 
@@ -31,6 +30,18 @@ pub fn begin(page: &mut [u64], period: u32, domains: [u32; 96]) {
     start_page(page);
 }
 
+// How many of the domains pass a test.
+fn count<F: Fn(usize) -> bool>(passes: F) -> u32
+    requires { F.IsAlwaysCallable passes }
+    ensures { result ≤ 16 }
+{
+    let mut count = 0;
+    for n in 1..17 {
+        count += u32::from(passes(n));
+    }
+    count
+}
+
 // Enters a yield of k: from the claim left to the yielded.
 fn move_claim(page: &mut [u64], n: usize, k: u64) {
     cells::take(page, n, cells::CLAIM, k);
@@ -40,14 +51,12 @@ fn move_claim(page: &mut [u64], n: usize, k: u64) {
 // Begins a period, and enters what each domain yields by forecast.
 fn start_page(page: &mut [u64]) {
     cells::start_period(page);
-    let mut n: usize = 1;
-    while n <= 16 {
+    for n in 1..17 {
         cells::put(page, n, ASKING, 1);
         cells::put(page, n, ONCLAIM, 0);
         let need = forecast::need(page, n);
-        let rest = cells::less(cells::get(page, n, cells::Q), need);
+        let rest = cells::get(page, n, cells::Q).saturating_sub(need);
         move_claim(page, n, rest);
-        n += 1;
     }
 }
 
@@ -56,25 +65,15 @@ fn within(page: &[u64], n: usize) -> bool {
     let yielded = cells::get(page, n, cells::YIELDED);
     let passes = cells::get(page, n, cells::RESERVED) + cells::get(page, n, cells::RECLAIMED);
     let reservation = cells::get(page, n, cells::Q);
-    if yielded > reservation {
-        return false;
-    }
-    passes <= reservation - yielded + cells::get(page, n, cells::R)
+    yielded <= reservation && passes <= reservation - yielded + cells::get(page, n, cells::R)
 }
 
 // The faults of a page at any moment: a domain above its bound, or more reclaimed than yielded.
 fn bounds(page: &[u64]) -> u32
     ensures { result ≤ 17 }
 {
-    let mut faults = words::one_if(
-        cells::total(page, cells::RECLAIMED) > cells::total(page, cells::YIELDED),
-    );
-    let mut n: usize = 1;
-    while n <= 16 {
-        faults += words::one_if(!within(page, n));
-        n += 1;
-    }
-    faults
+    let above = cells::total(page, cells::RECLAIMED) > cells::total(page, cells::YIELDED);
+    u32::from(above) + count(|n| !within(page, n))
 }
 
 // The entry of a call that completes no period.
@@ -103,7 +102,7 @@ pub fn enter_yield(page: &mut [u64], refused: bool, domain: u64, k: u64) -> Entr
     };
     let short = k > cells::get(page, n, cells::CLAIM);
     move_claim(page, n, k);
-    open_entry(page, words::one_if(short))
+    open_entry(page, u32::from(short))
 }
 
 // A plan handed in: the last one not refused is kept.
@@ -128,28 +127,24 @@ fn asks(page: &[u64], offers: &[u8], n: usize) -> bool {
 
 // Marks the domains that did not ask in a slot, before its entry.
 fn mark_asking(page: &mut [u64], offers: &[u8]) {
-    let mut n: usize = 1;
-    while n <= 16 {
-        let kept = if asks(page, offers, n) {
-            cells::get(page, n, ASKING)
-        } else {
-            0
-        };
-        cells::put(page, n, ASKING, kept);
-        n += 1;
+    for n in 1..17 {
+        if !asks(page, offers, n) {
+            cells::put(page, n, ASKING, 0);
+        }
     }
 }
 
-// The first number from one on with verdict 1, or 17.
-fn next_one(verdicts: &[u8], from: usize) -> usize {
-    let mut n = from;
-    while n < 17 {
-        if verdict::offer(verdicts, n) == 1 {
-            return n;
-        }
-        n += 1;
-    }
-    17
+// The first number with verdict 1.
+fn first_granted(verdicts: &[u8]) -> Option<usize> {
+    (0..17).find(|&n| verdict::offer(verdicts, n) == 1)
+}
+
+// Whether a second number has it too.
+fn second_granted(verdicts: &[u8]) -> bool {
+    (0..17)
+        .filter(|&n| verdict::offer(verdicts, n) == 1)
+        .nth(1)
+        .is_some()
 }
 
 // A domain's writeback: on its writeback claim left, or else on neither.
@@ -171,20 +166,13 @@ fn enter_access(page: &mut [u64], n: usize) {
     }
 }
 
-// Enters verdict 1 at a number, or at none: 17.
-fn enter_grant(page: &mut [u64], offers: &[u8], n: usize) {
-    if n == 0 {
-        cells::add(page, 0, cells::BEST, 1);
-        return;
-    }
-    if n > 16 {
-        cells::add(page, 0, cells::IDLE, 1);
-        return;
-    }
-    if verdict::offer(offers, n) == 2 {
-        enter_writeback(page, n);
-    } else {
-        enter_access(page, n);
+// Enters verdict 1 at a number, or at none.
+fn enter_grant(page: &mut [u64], offers: &[u8], granted: Option<usize>) {
+    match granted {
+        None => cells::add(page, 0, cells::IDLE, 1),
+        Some(0) => cells::add(page, 0, cells::BEST, 1),
+        Some(n) if verdict::offer(offers, n) == 2 => enter_writeback(page, n),
+        Some(n) => enter_access(page, n),
     }
 }
 
@@ -194,36 +182,27 @@ fn is_told(row: usize, column: usize) -> bool {
     if row > 0 {
         return column >= cells::RESERVED && column <= cells::WRITEBACKS;
     }
-    match column {
-        cells::IDLE | cells::BEST | cells::STEPS => true,
-        _ => false,
-    }
+    matches!(column, cells::IDLE | cells::BEST | cells::STEPS)
 }
 
 // What is told for a word of the page where a period is complete.
 fn count_due(page: &[u64], k: usize, complete: bool) -> u64 {
     let row = k / cells::COLUMNS;
     let column = k % cells::COLUMNS;
-    if is_told(row, column) {
-        if complete {
-            return cells::get(page, row, column);
-        }
+    if complete && is_told(row, column) {
+        cells::get(page, row, column)
+    } else {
+        0
     }
-    0
 }
 
 // Whether counts are told just where a period completes, and are the page's.
 fn counts_agree(page: &[u64], complete: bool, told: bool, counts: &[u64]) -> bool {
-    let mut k: usize = 0;
-    while k < cells::COUNTS {
-        if cells::get(counts, k / cells::COLUMNS, k % cells::COLUMNS)
-            != count_due(page, k, complete)
-        {
-            return false;
-        }
-        k += 1;
-    }
     told == complete
+        && (0..cells::COUNTS).all(|k| {
+            cells::get(counts, k / cells::COLUMNS, k % cells::COLUMNS)
+                == count_due(page, k, complete)
+        })
 }
 
 // What a completed period comes to: how many domains with a reservation kept asking, how many with both, how many that had
@@ -239,42 +218,34 @@ struct Shares {
 // Whether a domain passed on claim exactly Q less what it yielded, and wrote back on claim exactly V.
 fn used_up(page: &[u64], n: usize) -> bool {
     let reads = cells::get(page, n, cells::RESERVED) + cells::get(page, n, cells::YIELDED);
-    if cells::get(page, n, ONCLAIM) != cells::get(page, n, cells::V) {
-        return false;
-    }
     reads == cells::get(page, n, cells::Q)
+        && cells::get(page, n, ONCLAIM) == cells::get(page, n, cells::V)
 }
 
-fn kept_asking(page: &[u64], n: usize, and: bool) -> bool {
-    if cells::get(page, n, ASKING) == 1 {
-        and
-    } else {
-        false
-    }
+fn kept_asking(page: &[u64], n: usize) -> bool {
+    cells::get(page, n, ASKING) == 1
+}
+
+// How many reservations of a domain are above 0.
+fn reservations(page: &[u64], n: usize) -> u32 {
+    [cells::Q, cells::V]
+        .iter()
+        .filter(|&&column| cells::get(page, n, column) > 0)
+        .count() as u32
+}
+
+fn has_foreseen(page: &[u64], n: usize) -> bool {
+    cells::get(page, n, cells::Q) > forecast::need(page, n)
 }
 
 fn settled(page: &[u64]) -> Shares
     ensures { result.faults ≤ 16 }
 {
-    let mut asked: u32 = 0;
-    let mut twofold: u32 = 0;
-    let mut foreseen: u32 = 0;
-    let mut faults: u32 = 0;
-    let mut n: usize = 1;
-    while n <= 16 {
-        let reads = cells::get(page, n, cells::Q);
-        let writes = cells::get(page, n, cells::V);
-        asked += words::one_if(kept_asking(page, n, reads + writes > 0));
-        twofold += words::one_if(kept_asking(page, n, reads > 0 && writes > 0));
-        foreseen += words::one_if(kept_asking(page, n, reads > forecast::need(page, n)));
-        faults += words::one_if(kept_asking(page, n, !used_up(page, n)));
-        n += 1;
-    }
     Shares {
-        asked,
-        twofold,
-        foreseen,
-        faults,
+        asked: count(|n| kept_asking(page, n) && reservations(page, n) > 0),
+        twofold: count(|n| kept_asking(page, n) && reservations(page, n) == 2),
+        foreseen: count(|n| kept_asking(page, n) && has_foreseen(page, n)),
+        faults: count(|n| kept_asking(page, n) && !used_up(page, n)),
     }
 }
 
@@ -284,14 +255,9 @@ fn enter_decided(page: &mut [u64], offers: &[u8], verdicts: &[u8], steps: u32) -
 {
     mark_asking(page, offers);
     cells::add(page, 0, cells::DECIDED, 1);
-    cells::add(page, 0, cells::STEPS, words::wider(steps));
-    let n = next_one(verdicts, 0);
-    enter_grant(page, offers, n);
-    if n < 17 {
-        words::one_if(next_one(verdicts, n + 1) < 17)
-    } else {
-        0
-    }
+    cells::add(page, 0, cells::STEPS, u64::from(steps));
+    enter_grant(page, offers, first_granted(verdicts));
+    u32::from(second_granted(verdicts))
 }
 
 // The entry of a call that completes a period, and the next page, of the plan kept if there is one; the bounds hold from its
@@ -318,10 +284,12 @@ fn closed_entry(page: &mut [u64], faults: u32) -> Entry
 fn untrue_counts(page: &[u64], complete: bool, told: bool, counts: &[u64]) -> u32
     ensures { result ≤ 1 }
 {
-    words::one_if(!counts_agree(page, complete, told, counts))
+    u32::from(!counts_agree(page, complete, told, counts))
 }
 
 // A slot call: its offers, whether it was refused, its verdicts, the steps that it told, whether counts were told, and which.
+// Seven parameters: what a slot call showed, of one caller; a struct of them would be made for it alone. `refused` and `told`
+// are what the ledger is fed, as document 01 says.
 pub fn enter_slot(
     page: &mut [u64],
     offers: &[u8],

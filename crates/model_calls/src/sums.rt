@@ -16,30 +16,14 @@ fn domain_fits(s: &[u64], n: usize) -> bool {
     if cells::get(s, n, cells::WRITEBACKS) > cells::get(s, n, cells::W) {
         return false;
     }
-    if estimated_unmarked(s, n) {
+    if cells::get(s, n, cells::MARK) == 0 && cells::get(s, n, cells::KIND) != 0 {
         return false;
     }
     cells::get(s, n, cells::WRITECLAIM) == cells::write_claim(s, n)
 }
 
-fn estimated_unmarked(s: &[u64], n: usize) -> bool {
-    if cells::get(s, n, cells::MARK) == 0 {
-        cells::get(s, n, cells::KIND) != 0
-    } else {
-        false
-    }
-}
-
 fn domains_fit(s: &[u64]) -> bool {
-    let mut n: usize = 1;
-    while n <= 16 {
-        if domain_fits(s, n) {
-            n += 1;
-        } else {
-            return false;
-        }
-    }
-    true
+    (1..17).all(|n| domain_fits(s, n))
 }
 
 // Whether the running sum is one that so many idle slots, 17 each, and so many passes, up to 16 each, can come to.
@@ -48,10 +32,7 @@ fn steps_fit(s: &[u64], passes: u64) -> bool
 {
     let steps = cells::get(s, 0, cells::STEPS);
     let least = 17 * cells::get(s, 0, cells::IDLE);
-    if steps < least {
-        return false;
-    }
-    steps <= least + 16 * passes
+    steps >= least && steps <= least + 16 * passes
 }
 
 pub fn adds_up(s: &[u64]) -> bool {
@@ -72,12 +53,5 @@ pub fn adds_up(s: &[u64]) -> bool {
     if cells::get(s, 0, cells::IDLE) + passes != decided {
         return false;
     }
-    if !steps_fit(s, passes) {
-        return false;
-    }
-    if domains_fit(s) {
-        waiting::plans_fit(s)
-    } else {
-        false
-    }
+    steps_fit(s, passes) && domains_fit(s) && waiting::plans_fit(s)
 }

@@ -15,12 +15,8 @@ fn accepted(s: &[u64], from: usize) -> bool
 
 // Whether the plan in force would be accepted, and the one that waits too, if there is one.
 pub fn plans_fit(s: &[u64]) -> bool {
-    if cells::get(s, cells::NEXT, cells::WAITS) != 0 {
-        if !accepted(s, cells::NEXT) {
-            return false;
-        }
-    }
-    accepted(s, 0)
+    let waits = cells::get(s, cells::NEXT, cells::WAITS) != 0;
+    accepted(s, 0) && (!waits || accepted(s, cells::NEXT))
 }
 
 // Puts a plan in the place of whatever waits.
@@ -39,25 +35,24 @@ fn is_plan(row: usize, column: usize) -> bool {
     }
 }
 
-// Takes a word from the plan that waits, and puts it in front where that is asked.
-fn move_word(s: &mut [u64], row: usize, column: usize, in_front: bool)
+// Takes a word from the plan that waits, and leaves 0 there.
+fn take_word(s: &mut [u64], row: usize, column: usize) -> u64
     requires { row < 17 }
 {
     let word = cells::get(s, cells::NEXT + row, column);
     cells::put(s, cells::NEXT + row, column, 0);
-    if in_front {
-        cells::put(s, row, column, word);
-    }
+    word
 }
 
 // The plan that waits, if there is one, takes force, and none waits behind it.
 pub fn take_force(s: &mut [u64]) {
     let waits = cells::get(s, cells::NEXT, cells::WAITS) != 0;
-    let mut k: usize = 0;
-    while k < cells::COUNTS {
+    for k in 0..cells::COUNTS {
         let row = k / cells::COLUMNS;
         let column = k % cells::COLUMNS;
-        move_word(s, row, column, waits && is_plan(row, column));
-        k += 1;
+        let word = take_word(s, row, column);
+        if waits && is_plan(row, column) {
+            cells::put(s, row, column, word);
+        }
     }
 }

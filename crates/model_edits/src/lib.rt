@@ -7,7 +7,8 @@ mod after;
 pub mod chain;
 mod rescuing;
 
-use model_plans::{Answer, record};
+use after::Edit;
+use model_plans::{Answer, Refusal, record};
 
 // The domain to add.
 #[derive(Clone, Copy)]
@@ -20,7 +21,8 @@ pub struct Wanted {
     pub mark: bool,
 }
 
-// What an edit tells: the refusal, or 0, its place, and how many records a rescue left on the chain, 0 for the other edits.
+// What an edit tells: the refusal, or 0, its place, and how many records a rescue left on the chain, 0 for the other edits. The
+// refusal stays the document's number: the tests compare and count it as a number.
 #[derive(Clone, Copy)]
 pub struct Told {
     pub number: u32,
@@ -28,76 +30,90 @@ pub struct Told {
     pub kept: u32,
 }
 
-fn outcome(number: u32, place: u32) -> Told {
-    Told {
-        number,
-        place,
-        kept: 0,
-    }
-}
-
-fn none() -> Wanted {
-    Wanted {
-        number: 0,
-        q: 0,
-        r: 0,
-        w: 0,
-        v: 0,
-        mark: false,
+fn accepted(a: Answer) -> Result<(), Refusal> {
+    match a.number {
+        0 => Ok(()),
+        number => Err(Refusal {
+            number,
+            place: a.place,
+        }),
     }
 }
 
 // The refusal of reading, or else that of the edit, whose place is 0.
-fn first_of(a: Answer, number: u32) -> Told {
-    if a.number != 0 {
-        return outcome(a.number, a.place);
+fn drop_edit(file: &[u8], number: u64) -> Result<Edit, Refusal> {
+    accepted(model_plans::read(file))?;
+    match chain::position(file, number) {
+        0 => Err(Refusal::from(72)),
+        k => Ok(Edit::Drop {
+            one: chain::nth(file, k),
+            linked: chain::nth(file, k - 1),
+        }),
     }
-    outcome(number, 0)
 }
 
-pub fn drop_domain(file: &mut [u8], number: u64) -> Told {
-    let position = chain::position(file, number);
-    let t = first_of(model_plans::read(file), if position == 0 { 72 } else { 0 });
-    if t.number == 0 {
-        let one = chain::nth(file, position);
-        let before = chain::nth(file, std::num::wrapping_sub_u32(position, 1));
-        after::rebuild(file, after::change(after::DROP, one, before, 0, none()));
-    }
-    t
-}
-
-pub fn add_domain(file: &mut [u8], d: Wanted) -> Told {
+fn add_edit(file: &[u8], domain: Wanted) -> Result<Edit, Refusal> {
     let a = model_plans::read(file);
-    let free = chain::highest_free(file);
-    let t = first_of(a, adding::fault(a, d, free));
-    if t.number == 0 {
-        let last = chain::nth(file, chain::records(file));
-        after::rebuild(file, after::change(after::ADD, free, last, 0, d));
-    }
-    t
+    accepted(a)?;
+    let one = chain::highest_free(file);
+    adding::check(a, domain, one)?;
+    let linked = chain::nth(file, chain::records(file));
+    Ok(Edit::Add {
+        one,
+        linked,
+        domain,
+    })
 }
 
-pub fn compact(file: &mut [u8]) -> Told {
-    let t = first_of(model_plans::read_with_leftovers(file), 0);
-    if t.number == 0 {
-        let records = chain::records(file);
-        after::rebuild(file, after::change(after::COMPACT, 0, 0, records, none()));
-    }
-    t
+fn compact_edit(file: &[u8]) -> Result<Edit, Refusal> {
+    accepted(model_plans::read_with_leftovers(file))?;
+    let records = chain::records(file);
+    Ok(Edit::Compact { records })
 }
 
 // What 1 to 3 refuse is kept. Of any other file the chain ends where the walk stops, and then before the records that fall.
+fn rescue_edit(file: &[u8]) -> Result<Edit, Refusal> {
+    record::opening(file)?;
+    let records = rescuing::kept(file);
+    let linked = chain::nth(file, records);
+    Ok(Edit::Rescue { linked, records })
+}
+
+// Makes an edit that is not refused, and tells its outcome.
+fn made(file: &mut [u8], edit: Result<Edit, Refusal>) -> Told {
+    match edit {
+        Ok(edit) => {
+            after::rebuild(file, edit);
+            Told {
+                number: 0,
+                place: 0,
+                kept: edit.kept(),
+            }
+        }
+        Err(Refusal { number, place }) => Told {
+            number,
+            place,
+            kept: 0,
+        },
+    }
+}
+
+pub fn drop_domain(file: &mut [u8], number: u64) -> Told {
+    let edit = drop_edit(file, number);
+    made(file, edit)
+}
+
+pub fn add_domain(file: &mut [u8], d: Wanted) -> Told {
+    let edit = add_edit(file, d);
+    made(file, edit)
+}
+
+pub fn compact(file: &mut [u8]) -> Told {
+    let edit = compact_edit(file);
+    made(file, edit)
+}
+
 pub fn rescue(file: &mut [u8]) -> Told {
-    let opening = record::opening(file);
-    if opening != 0 {
-        return outcome(opening, 0);
-    }
-    let kept = rescuing::kept(file);
-    let last = chain::nth(file, kept);
-    after::rebuild(file, after::change(after::RESCUE, 0, last, kept, none()));
-    Told {
-        number: 0,
-        place: 0,
-        kept,
-    }
+    let edit = rescue_edit(file);
+    made(file, edit)
 }

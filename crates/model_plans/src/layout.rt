@@ -5,11 +5,7 @@ use super::words;
 
 // The index of the record of a rank, or 0 where so many domains are not present.
 fn index_of(domains: [u32; 96], rank: u32) -> u32 {
-    if words::ranked(domains, rank) == 0 {
-        0
-    } else {
-        rank
-    }
+    words::ranked(domains, rank).map_or(0, |_| rank)
 }
 
 // The number of two bytes at an even offset of record 0.
@@ -25,24 +21,15 @@ fn first_number(period: u32, domains: [u32; 96], offset: u32) -> u32 {
 fn domain_number(domains: [u32; 96], rank: u32, offset: u32) -> u32
     requires { rank < 65536 }
 {
-    let domain = words::ranked(domains, rank);
+    let Some(domain) = words::ranked(domains, rank) else {
+        return 0;
+    };
     match offset {
         0 => index_of(domains, rank + 1),
         2 => words::number_and_mark(domains, domain),
-        4 => words::word(domains, domain, 1),
-        6 => words::word(domains, domain, 2),
-        8 => words::word(domains, domain, 3),
-        10 => words::word(domains, domain, 4),
+        4 | 6 | 8 | 10 => words::word(domains, domain, offset / 2 - 1),
         _ => 0,
     }
-}
-
-fn low(x: u32) -> u8 {
-    (x % 256) as u8
-}
-
-fn high(x: u32) -> u8 {
-    (x / 256 % 256) as u8
 }
 
 // Byte k of the file.
@@ -56,11 +43,7 @@ fn byte_at(period: u32, domains: [u32; 96], k: u32) -> u8
     } else {
         domain_number(domains, record, offset)
     };
-    if k % 2 == 0 {
-        low(number)
-    } else {
-        high(number)
-    }
+    number.to_le_bytes()[(k % 2) as usize]
 }
 
 // Puts the file's bytes into the buffer if they all fit; otherwise puts none.
@@ -70,10 +53,8 @@ pub fn put_all(period: u32, domains: [u32; 96], bytes: u32, buffer: &mut [u8]) -
     if bytes as usize > buffer.len() {
         return false;
     }
-    let mut k: u32 = 0;
-    while k < bytes {
+    for k in 0..bytes {
         buffer[k as usize] = byte_at(period, domains, k);
-        k += 1;
     }
     true
 }

@@ -4,15 +4,17 @@
 #![tactic(auto)]
 
 mod along;
-mod chain;
+pub mod chain;
 mod layout;
 pub mod record;
 pub mod words;
 
 pub use along::Sums;
+use words::Totals;
 
-// What reading a file tells: number 0 where it is accepted; on a refusal the period and all words are 0.
-#[derive(Clone, Copy)]
+// What reading a file tells: number 0 where it is accepted; on a refusal the period and all words are 0. Refusals stay the
+// document's numbers here and in all answers of the models: the tests compare and count them as numbers.
+#[derive(Clone, Copy, PartialEq, Eq)]
 pub struct Answer {
     pub number: u32,
     pub place: u32,
@@ -20,57 +22,84 @@ pub struct Answer {
     pub domains: [u32; 96],
 }
 
-// What checking or writing a plan held as words tells; a refusal has 0 bytes.
-#[derive(Clone, Copy)]
+// What checking or writing a plan held as words tells; a refusal, which is a number as in `Answer`, has 0 bytes.
+#[derive(Clone, Copy, PartialEq, Eq)]
 pub struct Told {
     pub number: u32,
     pub place: u32,
     pub bytes: u32,
 }
 
-fn refused(number: u32, place: u32) -> Answer {
-    Answer {
-        number,
-        place,
-        period: 0,
-        domains: [0; 96],
+// A refusal by its number, and its place, or 0.
+#[derive(Clone, Copy, Debug, PartialEq, Eq)]
+pub struct Refusal {
+    pub number: u32,
+    pub place: u32,
+}
+
+// A refusal that is about no record.
+impl From<u32> for Refusal {
+    fn from(number: u32) -> Refusal {
+        Refusal { number, place: 0 }
+    }
+}
+
+// A plan that is held as words.
+#[derive(Clone, Copy)]
+struct Held {
+    period: u32,
+    domains: [u32; 96],
+}
+
+fn refuse<T>(number: u32, place: u32) -> Result<T, Refusal> {
+    Err(Refusal { number, place })
+}
+
+fn answer_of(read: Result<Held, Refusal>) -> Answer {
+    match read {
+        Ok(plan) => {
+            let domains = plan.domains;
+            Answer {
+                number: 0,
+                place: 0,
+                period: plan.period,
+                domains,
+            }
+        }
+        Err(Refusal { number, place }) => Answer {
+            number,
+            place,
+            period: 0,
+            domains: [0; 96],
+        },
+    }
+}
+
+fn held_with_leftovers(file: &[u8]) -> Result<Held, Refusal> {
+    let period = record::opening(file)?;
+    let domains = chain::walk(file, period)?;
+    // The chain is at its end: the last sum decides.
+    if along::sum_after(file, along::taken(file, period)) > period {
+        return refuse(10, 0);
+    }
+    Ok(Held { period, domains })
+}
+
+fn read_held(file: &[u8]) -> Result<Held, Refusal> {
+    let held = held_with_leftovers(file)?;
+    match chain::lowest_leftover(file, along::taken(file, held.period)) {
+        Some(leftover) => refuse(12, leftover),
+        None => Ok(held),
     }
 }
 
 // Reading by the rule of before leftovers were refused: what stands in a record off the chain is not looked at.
 pub fn read_with_leftovers(file: &[u8]) -> Answer {
-    let opening = record::opening(file);
-    if opening != 0 {
-        return refused(opening, 0);
-    }
-    let period = record::number(file, 0, 0);
-    let walked = chain::walk(file, period);
-    if walked.number != 0 {
-        return refused(walked.number, walked.place);
-    }
-    // The chain is at its end: the last sum decides.
-    if along::sum_after(file, along::taken(file, period)) > period {
-        return refused(10, 0);
-    }
-    let domains = walked.domains;
-    Answer {
-        number: 0,
-        place: 0,
-        period,
-        domains,
-    }
+    answer_of(held_with_leftovers(file))
 }
 
 pub fn read(file: &[u8]) -> Answer {
-    let earlier = read_with_leftovers(file);
-    if earlier.number != 0 {
-        return earlier;
-    }
-    let leftover = chain::lowest_leftover(file, along::taken(file, earlier.period));
-    if leftover != 0 {
-        return refused(12, leftover);
-    }
-    earlier
+    answer_of(read_held(file))
 }
 
 // What the walk along the chain of a file tells.
@@ -78,44 +107,56 @@ pub fn sums(file: &[u8]) -> Sums {
     along::of_file(file)
 }
 
-pub fn check(period: u32, domains: [u32; 96]) -> Told {
-    if period == 0 {
-        return outcome(2, 0, 0);
+// The rules of a plan held as a value, on what its domains come to.
+fn accepted(period: u32, totals: Totals) -> Result<(), Refusal> {
+    if period == 0 || period > 4096 {
+        return refuse(2, 0);
     }
-    if period > 4096 {
-        return outcome(2, 0, 0);
+    if let Some(domain) = totals.lowest_bad {
+        return refuse(9, domain);
     }
-    let totals = words::count(period, domains);
-    if totals.lowestbad != 0 {
-        return outcome(9, totals.lowestbad, 0);
+    if let Some(domain) = totals.lowest_above {
+        return refuse(11, domain);
     }
-    if totals.lowestabove != 0 {
-        return outcome(11, totals.lowestabove, 0);
+    if totals.reservations > u64::from(period) {
+        return refuse(10, 0);
     }
-    if totals.reservations > words::wider(period) {
-        return outcome(10, 0, 0);
-    }
-    outcome(0, 0, 0)
+    Ok(())
 }
 
-fn outcome(number: u32, place: u32, bytes: u32) -> Told {
-    Told {
-        number,
-        place,
-        bytes,
+// The bytes that are put into the buffer.
+fn written(period: u32, domains: [u32; 96], buffer: &mut [u8]) -> Result<u32, Refusal> {
+    let totals = words::count(period, domains);
+    accepted(period, totals)?;
+    let bytes = 16 * (1 + totals.present);
+    if layout::put_all(period, domains, bytes, buffer) {
+        Ok(bytes)
+    } else {
+        refuse(51, 0)
     }
+}
+
+fn told_of(outcome: Result<u32, Refusal>) -> Told {
+    match outcome {
+        Ok(bytes) => Told {
+            number: 0,
+            place: 0,
+            bytes,
+        },
+        Err(Refusal { number, place }) => Told {
+            number,
+            place,
+            bytes: 0,
+        },
+    }
+}
+
+// Checking tells no bytes.
+pub fn check(period: u32, domains: [u32; 96]) -> Told {
+    let totals = words::count(period, domains);
+    told_of(accepted(period, totals).map(|_| 0))
 }
 
 pub fn write(period: u32, domains: [u32; 96], buffer: &mut [u8]) -> Told {
-    let checked = check(period, domains);
-    if checked.number != 0 {
-        return checked;
-    }
-    let totals = words::count(period, domains);
-    let bytes = 16 * (1 + totals.present);
-    if layout::put_all(period, domains, bytes, buffer) {
-        outcome(0, 0, bytes)
-    } else {
-        outcome(51, 0, 0)
-    }
+    told_of(written(period, domains, buffer))
 }

@@ -1,106 +1,100 @@
-// A script line judged byte by byte. What was read of it so far is one of thirty forms: 0 nothing, 1 `s`, 2 its space,
-// 2 + n then n offers, 20 `y`, 21 its space, 22 and 23 a domain of one and of two digits, 24 the space behind it, 24 + n
-// then a k of n digits, and 29 none of these.
-// A whole slot line; 25 to 28 are whole yield lines.
-pub const SLOT: u32 = 19;
+// A script line judged byte by byte. Where it is neither form, what was read of its numbers counts no more.
 
-pub const NEITHER: u32 = 29;
+// What was read of a line so far.
+#[derive(Clone, Copy, Debug, PartialEq, Eq)]
+pub enum Form {
+    Nothing,
+    // `s`.
+    Slot,
+    // Its space, and so many offers.
+    Offers(u32),
+    // `y`.
+    Yield,
+    // Its space, and so many digits of a domain.
+    Domain(u32),
+    // The space behind it, and so many digits of a k.
+    Count(u32),
+    Neither,
+}
+
+// A whole slot line.
+pub const SLOT: Form = Form::Offers(17);
 
 // The form, and the numbers of a yield line so far.
 #[derive(Clone, Copy)]
 pub struct Line {
-    pub form: u32,
+    pub form: Form,
     pub domain: u64,
     pub k: u64,
 }
 
 pub fn nothing() -> Line {
     Line {
-        form: 0,
+        form: Form::Nothing,
         domain: 0,
         k: 0,
     }
 }
 
-pub fn is_yield(form: u32) -> bool {
-    match form {
-        25..=28 => true,
-        _ => false,
-    }
+// Whether a line is a whole yield line.
+pub fn is_yield(form: Form) -> bool {
+    matches!(form, Form::Count(1..=4))
 }
 
-// The value of a digit, 10 for any other byte.
-pub fn digit(b: u8) -> u8 {
+// The value of a digit.
+pub fn digit(b: u8) -> Option<u8> {
     match b {
-        b'0'..=b'9' => b - b'0',
-        _ => 10,
-    }
-}
-
-// The next form, where a byte fits it.
-pub fn on(form: u32, fits: bool) -> u32 {
-    if fits {
-        std::num::wrapping_add_u32(form, 1)
-    } else {
-        NEITHER
+        b'0'..=b'9' => Some(b - b'0'),
+        _ => None,
     }
 }
 
 // The form after one byte more.
-fn after(form: u32, b: u8) -> u32 {
-    match form {
-        0 => match b {
-            b's' => 1,
-            b'y' => 20,
-            _ => NEITHER,
-        },
-        1 | 20 | 23 => on(form, b == b' '),
-        22 => if b == b' ' { 24 } else { on(22, digit(b) < 10) },
-        2..=18 | 21 | 24..=27 => on(form, digit(b) < 10),
-        _ => NEITHER,
+fn after(form: Form, b: u8) -> Form {
+    match (form, b) {
+        (Form::Nothing, b's') => Form::Slot,
+        (Form::Nothing, b'y') => Form::Yield,
+        (Form::Slot, b' ') => Form::Offers(0),
+        (Form::Offers(n @ 0..=16), b'0'..=b'9') => Form::Offers(n + 1),
+        (Form::Yield, b' ') => Form::Domain(0),
+        (Form::Domain(n @ 0..=1), b'0'..=b'9') => Form::Domain(n + 1),
+        (Form::Domain(1..=2), b' ') => Form::Count(0),
+        (Form::Count(n @ 0..=3), b'0'..=b'9') => Form::Count(n + 1),
+        _ => Form::Neither,
     }
 }
 
 // A number with one digit more; none here has more than nine.
-pub fn tenfold(x: u64, b: u8) -> u64 {
-    let d = digit(b);
-    if d < 10 {
-        x % 100000000 * 10 + d as u64
-    } else {
-        x
-    }
+pub fn tenfold(x: u64, digit: u8) -> u64 {
+    x % 100000000 * 10 + u64::from(digit)
 }
 
 // The line with one byte more, an offer of which goes to the lent slice.
 pub fn with_byte(l: Line, b: u8, offers: &mut [u8]) -> Line {
     let mut next = l;
     next.form = after(l.form, b);
-    match l.form {
-        2..=18 => put_offer(offers, l.form, digit(b)),
-        21 | 22 => next.domain = tenfold(l.domain, b),
-        24..=27 => next.k = tenfold(l.k, b),
-        _ => {}
+    if let Some(d) = digit(b) {
+        match l.form {
+            Form::Offers(n) => put_offer(offers, n as usize, d),
+            Form::Domain(_) => next.domain = tenfold(l.domain, d),
+            Form::Count(_) => next.k = tenfold(l.k, d),
+            _ => {}
+        }
     }
     next
 }
 
-fn put_offer(offers: &mut [u8], form: u32, value: u8) {
-    if form >= 2 {
-        let n = (form - 2) as usize;
-        if n < offers.len() {
-            offers[n] = value;
-        }
+fn put_offer(offers: &mut [u8], n: usize, value: u8) {
+    if n < offers.len() {
+        offers[n] = value;
     }
 }
 
 // A line without its byte 10: what it is, and where it is a slot line its offers.
 pub fn read_line(line: &[u8], offers: &mut [u8]) -> Line {
     let mut l = nothing();
-    let mut k: usize = 0;
-    while k < line.len() {
-        let next = with_byte(l, line[k], offers);
-        l = next;
-        k += 1;
+    for &b in line {
+        l = with_byte(l, b, offers);
     }
     l
 }

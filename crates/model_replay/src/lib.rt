@@ -9,5 +9,5 @@ mod run;
 pub mod text;
 
 pub use asking::{Answered, why};
-pub use form::{Line, SLOT, is_yield, read_line};
+pub use form::{Form, Line, SLOT, is_yield, read_line};
 pub use run::{Ended, replay};

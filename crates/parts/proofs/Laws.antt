@@ -1,3 +1,2 @@
--- The laws of moved bytes, and of bytes that are read behind others.
-pub mod Moving
+-- The laws of bytes that are read behind others.
 pub mod Reading

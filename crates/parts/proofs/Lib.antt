@@ -1,2 +1,2 @@
--- What is proved of moved and read bytes beside the functions.
+-- What is proved of bytes that are read beside the functions.
 pub mod Laws

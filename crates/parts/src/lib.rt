@@ -9,4 +9,4 @@ mod file;
 mod input;
 
 pub use file::{read_file, read_full};
-pub use input::{Part, refill};
+pub use input::{Behind, Part, refill};

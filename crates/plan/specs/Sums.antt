@@ -7,9 +7,8 @@ use Rattle.plan.specs.Value.{reserved_of}
 use Rattle.plan.specs.Records.{period_in}
 use Rattle.plan.specs.Chain.{chain_of, domains_in, sums_in, last_sum}
 use Rattle.plan.specs.Walk.{sums_held}
-use Rattle.plan.specs.Reading.{head_table, refused_reading, way_table, accepted_of, read_with_leftovers}
+use Rattle.plan.specs.Reading.{head_table, refused_reading, way_table, accepted_of, read_with_leftovers, Reading}
 use Rattle.plan.specs.declared.chain.Sums.{Sums}
-use Rattle.plan.specs.declared.reading.Reading.{Reading}
 
 -- The sums told of a file, for any bytes: none where 1 to 3 refuse it, since then no link is followed.
 unfoldable pub sums_told : List ℕ → Sums

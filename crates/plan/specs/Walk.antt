@@ -1,18 +1,18 @@
 -- What the walk keeps and answers, read off the chain's definitions: the contracts of the code that follows a chain.
 -- Assumes nothing.
-use Rattle.std.specs.Prelude.{ℕ, ◌+◌, ◌-◌, Bool, cond, not, List, [], ◌∷◌, ◌++◌, length, set, replicate, eqb, ltb}
+use Rattle.std.specs.Prelude.{ℕ, ◌+◌, ◌-◌, Bool, cond, not, List, [], ◌∷◌, ◌++◌, length, set, replicate, eqb, ltb, Result, Ok, Err}
 use Rattle.table.specs.Members.{has, last_of}
 use Rattle.table.specs.Ranges.{values_below}
 use Rattle.table.specs.Lines.{first_of}
-use Rattle.plan.specs.Value.{no_domains, reserves, with_domain, plan_of}
+use Rattle.plan.specs.Value.{no_domains, reserves, with_domain, plan_of, number, refusal_by}
 use Rattle.plan.specs.Records.{period_in}
 use Rattle.plan.specs.Chain.{link, fault, chain_of, domains_at, sums_at}
-use Rattle.plan.specs.Reading.{head_table, refused_reading, accepted_reading}
+use Rattle.plan.specs.Reading.{head_table, refused_reading, accepted_reading, Reading}
 use Rattle.plan.specs.declared.value.Domain.{Domain}
 use Rattle.plan.specs.declared.chain.Sums.{Sums}
 use Rattle.plan.specs.declared.chain.Gathered.{Gathered}
-use Rattle.plan.specs.declared.chain.Walked.{Walked}
-use Rattle.plan.specs.declared.reading.Reading.{Reading}
+use Rattle.plan.specs.declared.chain.Way.{Way}
+use Rattle.plan.specs.declared.refusal.Fault.{Fault}
 
 -- Sums as an answer holds them: how many they are, and sixteen places with zeros behind the last.
 abbrev pub sums_held : List ℕ → Sums
@@ -34,6 +34,22 @@ with_record g d =
 -- which of the 64 records that a file can have are those of `chain`
 abbrev pub seen_at : List ℕ → List Bool
 seen_at chain = values_below (λ (i : ℕ). has i chain) 64
+
+-- The number of a fault, or 0 where there is none.
+abbrev pub fault_number : Result Unit Fault → ℕ
+fault_number (Ok _) = 0
+fault_number (Err f) = number f
+
+-- What the walk tells: the number of a refusal and its place, or 0 and 0; what was gathered before; the records taken.
+pub record Walked : Type 0 where
+  pub refused : ℕ
+  pub place : ℕ
+  pub gathered : Gathered
+  pub seen : List Bool
+
+-- What a call's answer says in these words.
+abbrev pub walked_by : Way → Walked
+walked_by w = record { refused = (refusal_by w.ended).refused; place = (refusal_by w.ended).place; gathered = w.gathered; seen = w.seen }
 
 -- What the walk answers after the records of `chain`: refusal, place, plan, sums and flags are read off them. At the
 -- chain's end the link is 0, and so is the place.

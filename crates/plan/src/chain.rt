@@ -1,16 +1,17 @@
 // The chain of a plan file: each index followed is checked, and then its record.
 ghost use Rattle.std.specs.Prelude.{◌≡◌, false, [], ◌++◌, ◌-◌, ◌/◌, ◌<◌, ◌≤◌, length, get_or};
 ghost use Rattle.table.specs.Lines.{first_of};
-ghost use Rattle.plan.specs.Value.{no_domains};
 ghost use Rattle.plan.specs.Records.{record_at};
 ghost use Rattle.plan.specs.Chain.{unlisted, link_table, record_table};
-ghost use Rattle.plan.specs.Walk.{sums_held, with_sum, with_record, walked_of, not_walked};
+ghost use Rattle.plan.specs.Value.{no_domains, number};
+ghost use Rattle.plan.specs.Walk.{sums_held, with_sum, with_record, fault_number, walked_by, walked_of, not_walked};
 
+use crate::refusal::{Fault, Refused};
 use crate::value::{Domain, Plan};
 use crate::{records, value};
 
 // The sums that the walk tells: how many records it took, and after each of them the sum of what the domains met so far
-// reserve. Zeros stand behind the last.
+// reserve. Zeros stand behind the last: there is no heap here to keep a Vec.
 #[derive(Clone, Copy)]
 pub struct Sums {
     pub records: usize,
@@ -25,16 +26,16 @@ pub struct Gathered {
     pub sums: Sums,
 }
 
-// What following the chain came to: the refusal that ended it and the index it was met at, or 0 and 0 at the chain's
-// end; what was gathered before; and which records were taken.
+// What following the chain came to: how it ended, at its end or with a refusal at the index followed; what was gathered
+// before; and which records were taken.
 #[derive(Clone, Copy)]
-pub struct Walked {
-    pub refused: u8,
-    pub place: u16,
+pub struct Way {
+    pub ended: Result<(), Refused>,
     pub gathered: Gathered,
     pub seen: [bool; 64],
 }
 
+// (A record stays a slice whose length is required, here and below: the public `record_part` answers one, of the file that is lent.)
 // Is an unlisted byte of a domain record not zero, or the mark's byte above 1?
 fn any_unlisted(b: &[u8]) -> bool
     requires { length b.now ≡ 16 }
@@ -43,44 +44,55 @@ fn any_unlisted(b: &[u8]) -> bool
     1 < b[3] || !records::all_zero(&b[12..16])
 }
 
-// The refusal that a record draws by itself, 6 to 9 or 11, or 0.
-fn record_refusal(b: &[u8], period: u16, planned: [bool; 16]) -> u8
+// What a record is refused for by itself: 6 to 9 or 11.
+fn check_record(b: &[u8], period: u16, planned: [bool; 16]) -> Result<(), Fault>
     requires { length b.now ≡ 16 }
-    ensures { result ≡ first_of (record_table period (get_or planned (get_or b.now 2 0 - 1) false) b.now) 0 }
+    ensures { fault_number result ≡ first_of (record_table period (get_or planned (get_or b.now 2 0 - 1) false) b.now) 0 }
 {
-    let number = records::wide(b[2]);
-    if value::is_outside(16, number) {
-        return 6;
+    let number = b[2];
+    if value::is_outside(16, u64::from(number)) {
+        return Err(Fault::NoNumber);
     }
-    let at = (number - 1) as usize;
-    if planned[at] {
-        return 7;
+    if planned[usize::from(number - 1)] {
+        return Err(Fault::NumberAgain);
     }
     if any_unlisted(b) {
-        return 8;
+        return Err(Fault::Unlisted);
     }
     let d = records::domain_in(b);
-    if value::any_above(period, d.reservation, d.reclaimcap, d.writebackcap) {
-        return 9;
+    let w = u64::from(d.writebackcap);
+    if value::any_above(
+        u64::from(period),
+        u64::from(d.reservation),
+        u64::from(d.reclaimcap),
+        w,
+    ) {
+        return Err(Fault::AbovePeriod);
     }
-    if value::is_above_cap(d.writebackcap, d.writebackreservation) {
-        return 11;
+    if value::is_above_cap(w, u64::from(d.writebackreservation)) {
+        return Err(Fault::AboveCap);
     }
-    0
+    Ok(())
 }
 
-// The refusal that following index i draws, 4 to 9 or 11, or 0: `seen` tells the records on the chain, `planned` the numbers met.
-fn following(file: &[u8], period: u16, seen: [bool; 64], planned: [bool; 16], i: usize) -> u8
+// What following index i is refused for: 4 to 9 or 11. `seen` tells the records on the chain, `planned` the numbers met.
+fn follow(
+    file: &[u8],
+    period: u16,
+    seen: [bool; 64],
+    planned: [bool; 16],
+    i: usize,
+) -> Result<(), Fault>
     requires { length file.now ≤ 1024 }
-    ensures { result ≡ first_of (link_table (length file.now / 16) (get_or seen i false) i ++ record_table period (get_or planned (get_or (record_at file.now i) 2 0 - 1) false) (record_at file.now i)) 0 }
+    ensures { fault_number result ≡ first_of (link_table (length file.now / 16) (get_or seen i false) i ++ record_table period (get_or planned (get_or (record_at file.now i) 2 0 - 1) false) (record_at file.now i)) 0 }
 {
     if file.len() / 16 <= i {
-        return 4;
+        return Err(Fault::NoRecord);
     }
     if seen[i] {
-        return 5;
+        return Err(Fault::RecordAgain);
     }
-    record_refusal(records::record_part(file, i), period, planned)
+    check_record(records::record_part(file, i), period, planned)
 }
 
 // No sum told yet.
@@ -128,36 +140,36 @@ fn gather(g: Gathered, d: Domain) -> Gathered
 }
 
 // Nothing followed, since the file's length or record 0 is refused.
-pub(crate) fn not_walked(refused: u8) -> Walked
-    ensures { result ≡ not_walked refused }
+pub(crate) fn not_walked(fault: Fault) -> Way
+    ensures { walked_by result ≡ not_walked (number fault) }
 {
+    let ended = Err(Refused { fault, place: 0 });
     let gathered = nothing_gathered(0);
     let seen = [false; 64];
-    Walked {
-        refused,
-        place: 0,
+    Way {
+        ended,
         gathered,
         seen,
     }
 }
 
-// Follows the chain of a file whose length and record 0 are in order.
-pub(crate) fn walk(file: &[u8]) -> Walked
+// Follows the chain of a file whose length and record 0 are in order. A `while`, since it goes along the links and not
+// along an index.
+pub(crate) fn walk(file: &[u8]) -> Way
     requires { (16 ≤ length file.now) × (length file.now ≤ 1024) }
-    ensures { result ≡ walked_of file.now }
+    ensures { walked_by result ≡ walked_of file.now }
 {
     let period = records::u16_at(file, 0);
     let mut gathered = nothing_gathered(period);
     let mut seen = [false; 64];
     let mut i = records::u16_at(file, 2);
     while i != 0 {
-        let at = i as usize;
+        let at = usize::from(i);
         let planned = gathered.plan.planned;
-        let refused = following(file, period, seen, planned, at);
-        if refused != 0 {
-            return Walked {
-                refused,
-                place: i,
+        if let Err(fault) = follow(file, period, seen, planned, at) {
+            let ended = Err(Refused { fault, place: i });
+            return Way {
+                ended,
                 gathered,
                 seen,
             };
@@ -168,9 +180,8 @@ pub(crate) fn walk(file: &[u8]) -> Walked
         seen[at] = true;
         i = records::u16_at(b, 0);
     }
-    Walked {
-        refused: 0,
-        place: 0,
+    Way {
+        ended: Ok(()),
         gathered,
         seen,
     }

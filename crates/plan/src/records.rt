@@ -1,36 +1,22 @@
 // Records of a plan file: what the sixteen bytes of one hold, read and written.
-ghost use Rattle.std.specs.Prelude.{◌≡◌, cond, ◌+◌, ◌*◌, ◌<◌, ◌≤◌, length};
+ghost use Rattle.std.specs.Prelude.{◌≡◌, ◌+◌, ◌*◌, ◌<◌, ◌≤◌, length};
 ghost use Rattle.plan.specs.Records.{u16_at, zeros, record_at, domain_in, head_record, domain_record};
 
 use crate::value::Domain;
-
-// A byte as a number of two bytes.
-pub(crate) fn wide(x: u8) -> u16
-    ensures { (result ≡ x) × (result < 256) }
-{
-    x as u16
-}
 
 // A number of two bytes, unsigned, little-endian.
 pub fn u16_at(s: &[u8], at: usize) -> u16
     requires { at + 1 < length s.now }
     ensures { result ≡ u16_at s.now at }
 {
-    wide(s[at]) + 256 * wide(s[at + 1])
+    u16::from_le_bytes([s[at], s[at + 1]])
 }
 
 // Is every byte zero?
 pub(crate) fn all_zero(s: &[u8]) -> bool
     ensures { result ≡ zeros s.now }
 {
-    let mut i = 0;
-    while i < s.len() {
-        if s[i] != 0 {
-            return false;
-        }
-        i += 1;
-    }
-    true
+    s.iter().all(|&b| b == 0)
 }
 
 // The sixteen bytes of record i.
@@ -42,7 +28,7 @@ pub fn record_part(file: &[u8], i: usize) -> &[u8]
     &file[at..at + 16]
 }
 
-// The domain that a record states.
+// The domain that a record states. (Its length is required, as in chain.rt.)
 pub(crate) fn domain_in(b: &[u8]) -> Domain
     requires { length b.now ≡ 16 }
     ensures { result ≡ domain_in b.now }
@@ -61,50 +47,33 @@ pub(crate) fn domain_in(b: &[u8]) -> Domain
 pub(crate) fn head_record(period: u16, first: u16) -> [u8; 16]
     ensures { result ≡ head_record period first }
 {
-    [
-        (period % 256) as u8,
-        (period / 256 % 256) as u8,
-        (first % 256) as u8,
-        (first / 256 % 256) as u8,
-        0,
-        0,
-        0,
-        0,
-        0,
-        0,
-        0,
-        0,
-        0,
-        0,
-        0,
-        0,
-    ]
-}
-
-// The byte of a mark.
-fn mark_byte(marked: bool) -> u8
-    ensures { result ≡ cond marked 1 0 }
-{
-    if marked { 1 } else { 0 }
+    let p = period.to_le_bytes();
+    let f = first.to_le_bytes();
+    [p[0], p[1], f[0], f[1], 0, 0, 0, 0, 0, 0, 0, 0, 0, 0, 0, 0]
 }
 
 // The bytes of a domain's record.
 pub fn domain_record(next: u16, d: Domain) -> [u8; 16]
     ensures { result ≡ domain_record next d }
 {
+    let n = next.to_le_bytes();
+    let q = d.reservation.to_le_bytes();
+    let r = d.reclaimcap.to_le_bytes();
+    let w = d.writebackcap.to_le_bytes();
+    let v = d.writebackreservation.to_le_bytes();
     [
-        (next % 256) as u8,
-        (next / 256 % 256) as u8,
+        n[0],
+        n[1],
         d.number,
-        mark_byte(d.marked),
-        (d.reservation % 256) as u8,
-        (d.reservation / 256 % 256) as u8,
-        (d.reclaimcap % 256) as u8,
-        (d.reclaimcap / 256 % 256) as u8,
-        (d.writebackcap % 256) as u8,
-        (d.writebackcap / 256 % 256) as u8,
-        (d.writebackreservation % 256) as u8,
-        (d.writebackreservation / 256 % 256) as u8,
+        u8::from(d.marked),
+        q[0],
+        q[1],
+        r[0],
+        r[1],
+        w[0],
+        w[1],
+        v[0],
+        v[1],
         0,
         0,
         0,
@@ -117,9 +86,5 @@ pub fn put_record(b: &mut [u8], bytes: [u8; 16])
     requires { length b.old ≡ 16 }
     ensures { b.new ≡ bytes }
 {
-    let mut i = 0;
-    while i < 16 {
-        b[i] = bytes[i];
-        i += 1;
-    }
+    b.copy_from_slice(&bytes);
 }

@@ -1,11 +1,12 @@
 // The plan value, and the check of a plan that is held as a value.
-ghost use Rattle.std.specs.Prelude.{◌≡◌, cond, ℕ, ◌<◌, ◌≤◌};
-ghost use Rattle.table.specs.Ranges.{lowest};
-ghost use Rattle.plan.specs.Value.{outside, above, holds_absent, above_cap, out_of_range, over_cap, reserved, plan_refusal, no_domains, with_domain, reserves};
+ghost use Rattle.std.specs.Prelude.{◌≡◌, cond, ◌<◌, ◌≤◌};
+ghost use Rattle.plan.specs.Value.{outside, above, holds_absent, above_cap, out_of_range, over_cap, IsLowest, reserved, plan_refusal, refusal_by, no_domains, with_domain, reserves};
+
+use crate::refusal::{Fault, Refused};
 
 // A plan: the period, and of each domain number n at index n - 1 whether it is planned, its reservation Q, reclaim cap R,
 // writeback cap W and writeback reservation, and whether it is marked to yield by forecast.
-#[derive(Clone, Copy)]
+#[derive(Clone, Copy, PartialEq, Eq)]
 pub struct Plan {
     pub period: u16,
     pub planned: [bool; 16],
@@ -27,59 +28,46 @@ pub struct Domain {
     pub marked: bool,
 }
 
-// The number of a refusal and its place, both 0 where nothing is refused.
-#[derive(Clone, Copy)]
-pub struct Refusal {
-    pub refused: u8,
-    pub place: u16,
-}
-
-// Would the plan be accepted as a value? The refusal, or 0.
-pub fn check(p: Plan) -> Refusal
-    ensures { result ≡ plan_refusal p }
+// Would the plan be accepted as a value? If not, what it is refused for.
+pub fn check(p: Plan) -> Result<(), Refused>
+    ensures { refusal_by result ≡ plan_refusal p }
 {
-    let period = p.period;
-    if is_outside(4096, period) {
-        return Refusal {
-            refused: 2,
+    if is_outside(4096, u64::from(p.period)) {
+        return Err(Refused {
+            fault: Fault::Period,
             place: 0,
-        };
+        });
     }
-    let j = lowest_fault(p, false);
-    if j < 16 {
-        return Refusal {
-            refused: 9,
+    if let Some(j) = lowest_out_of_range(p) {
+        return Err(Refused {
+            fault: Fault::AbovePeriod,
             place: (j + 1) as u16,
-        };
+        });
     }
-    let over = lowest_fault(p, true);
-    if over < 16 {
-        return Refusal {
-            refused: 11,
-            place: (over + 1) as u16,
-        };
+    if let Some(j) = lowest_over_cap(p) {
+        return Err(Refused {
+            fault: Fault::AboveCap,
+            place: (j + 1) as u16,
+        });
     }
-    if (period as u32) < all_reserved(p) {
-        return Refusal {
-            refused: 10,
+    if u32::from(p.period) < all_reserved(p) {
+        return Err(Refused {
+            fault: Fault::Sum,
             place: 0,
-        };
+        });
     }
-    Refusal {
-        refused: 0,
-        place: 0,
-    }
+    Ok(())
 }
 
 // Is a number 0 or above a bound?
-pub(crate) fn is_outside(most: u16, n: u16) -> bool
+pub fn is_outside(most: u64, n: u64) -> bool
     ensures { result ≡ outside most n }
 {
     n == 0 || most < n
 }
 
 // Is one of a domain's three numbers above what they may be at most?
-pub(crate) fn any_above(most: u16, q: u16, r: u16, w: u16) -> bool
+pub fn any_above(most: u64, q: u64, r: u64, w: u64) -> bool
     ensures { result ≡ above most q r w }
 {
     most < q || (most < r || most < w)
@@ -100,40 +88,48 @@ fn holds_absent(planned: bool, reservation: u16, marked: bool) -> bool
 }
 
 // Is the writeback reservation above the writeback cap?
-pub(crate) fn is_above_cap(cap: u16, reservation: u16) -> bool
+pub fn is_above_cap(cap: u64, reservation: u64) -> bool
     ensures { result ≡ above_cap cap reservation }
 {
     cap < reservation
 }
 
-// Are the numbers of the domain at index j out of range (9), or, where it is asked, is its writeback reservation above
-// its cap (11)?
-fn fault_at(p: Plan, capped: bool, j: usize) -> bool
+// Are the numbers of the domain at index j out of range?
+fn is_out_of_range(p: Plan, j: usize) -> bool
     requires { j < 16 }
-    ensures { result ≡ cond capped (over_cap p j) (out_of_range p j) }
+    ensures { result ≡ out_of_range p j }
 {
-    if capped {
-        return is_above_cap(p.writebackcap[j], p.writebackreservation[j]);
-    }
-    let most = most_of(p.planned[j], p.period);
-    if any_above(most, p.reservation[j], p.reclaimcap[j], p.writebackcap[j]) {
-        return true;
-    }
-    holds_absent(p.planned[j], p.writebackreservation[j], p.marked[j])
+    let most = u64::from(most_of(p.planned[j], p.period));
+    let q = u64::from(p.reservation[j]);
+    let r = u64::from(p.reclaimcap[j]);
+    let w = u64::from(p.writebackcap[j]);
+    any_above(most, q, r, w) || holds_absent(p.planned[j], p.writebackreservation[j], p.marked[j])
 }
 
-// The lowest index of a domain with that fault, or 16 where there is none.
-fn lowest_fault(p: Plan, capped: bool) -> usize
-    ensures { result ≡ lowest (λ (j : ℕ). cond capped (over_cap p j) (out_of_range p j)) 16 }
+// Is the writeback reservation of the domain at index j above its cap?
+fn is_over_cap(p: Plan, j: usize) -> bool
+    requires { j < 16 }
+    ensures { result ≡ over_cap p j }
 {
-    let mut j = 0;
-    while j < 16 {
-        if fault_at(p, capped, j) {
-            return j;
-        }
-        j += 1;
-    }
-    16
+    is_above_cap(
+        u64::from(p.writebackcap[j]),
+        u64::from(p.writebackreservation[j]),
+    )
+}
+
+// The lowest index of a domain whose numbers are out of range. Two searches, and not one that is handed its test: its contract would
+// have to speak of what that test answers at each index.
+fn lowest_out_of_range(p: Plan) -> Option<usize>
+    ensures { IsLowest (out_of_range p) 16 result }
+{
+    (0..16).find(|&j| is_out_of_range(p, j))
+}
+
+// The lowest index of a domain whose writeback reservation is above its cap.
+fn lowest_over_cap(p: Plan) -> Option<usize>
+    ensures { IsLowest (over_cap p) 16 result }
+{
+    (0..16).find(|&j| is_over_cap(p, j))
 }
 
 // What all domains reserve together.
@@ -146,7 +142,7 @@ pub fn all_reserved(p: Plan) -> u32
 }
 
 // A plan of a period, without domains.
-pub(crate) fn no_domains(period: u16) -> Plan
+pub fn no_domains(period: u16) -> Plan
     ensures { result ≡ no_domains period }
 {
     Plan {
@@ -180,5 +176,5 @@ pub(crate) fn with_domain(p: Plan, d: Domain) -> Plan
 pub(crate) fn reserves(d: Domain) -> u32
     ensures { (result ≡ reserves d) × (result ≤ 131070) }
 {
-    d.reservation as u32 + d.writebackreservation as u32
+    u32::from(d.reservation) + u32::from(d.writebackreservation)
 }

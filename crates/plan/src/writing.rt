@@ -1,17 +1,10 @@
 // Writing a plan: its domains in ascending number at records 1, 2, .., each naming the next.
 ghost use Rattle.std.specs.Prelude.{◌≡◌, ◌++◌, ◌+◌, ◌*◌, ◌<◌, ◌≤◌, length, drop};
-ghost use Rattle.plan.specs.Writing.{next_index, record_of, records_from, Lists, write_plan, written};
+ghost use Rattle.plan.specs.Writing.{next_index, record_of, records_from, Lists, write_plan, written, writing_by};
 
+use crate::refusal::{Fault, Refused};
 use crate::value::{Domain, Plan};
 use crate::{records, value};
-
-// What writing answers: the refusal and its place and no bytes, or 0, 0 and the count of bytes written.
-#[derive(Clone, Copy)]
-pub struct Writing {
-    pub refused: u8,
-    pub place: u16,
-    pub bytes: usize,
-}
 
 // The domains of a plan, one after the other: the first `count` of the sixteen.
 #[derive(Clone, Copy)]
@@ -24,6 +17,7 @@ pub struct Listed {
 fn list_domains(p: Plan) -> Listed
     ensures { Lists p 16 result.count result.domains }
 {
+    // An array whose places behind the count hold no domain: there is no heap here to keep a Vec.
     let none = Domain {
         number: 0,
         reservation: 0,
@@ -77,41 +71,27 @@ fn put_records(buffer: &mut [u8], period: u16, l: Listed)
     requires { (l.count ≤ 16) × (16 * (l.count + 1) ≤ length buffer.old) }
     ensures { buffer.new ≡ records_from (record_of period l.count l.domains) 0 (l.count + 1) ++ drop (16 * (l.count + 1)) buffer.old }
 {
-    let mut k = 0;
-    while k <= l.count {
+    for k in 0..l.count + 1 {
         let bytes = record_bytes(period, l, k);
         let at = 16 * k;
         records::put_record(&mut buffer[at..at + 16], bytes);
-        k += 1;
     }
 }
 
-// Writes the file of a plan to the start of a lent buffer. A refusal writes nothing.
-pub fn write(p: Plan, buffer: &mut [u8]) -> Writing
-    ensures value { result ≡ write_plan p (length buffer.old) }
+// Writes the file of a plan to the start of a lent buffer, and counts its bytes. A refusal writes nothing.
+pub fn write(p: Plan, buffer: &mut [u8]) -> Result<usize, Refused>
+    ensures value { writing_by result ≡ write_plan p (length buffer.old) }
     ensures buffer_after { buffer.new ≡ written p buffer.old }
 {
-    let r = value::check(p);
-    if r.refused != 0 {
-        return Writing {
-            refused: r.refused,
-            place: r.place,
-            bytes: 0,
-        };
-    }
+    value::check(p)?;
     let l = list_domains(p);
     let need = 16 * (l.count + 1);
     if buffer.len() < need {
-        return Writing {
-            refused: 51,
+        return Err(Refused {
+            fault: Fault::Room,
             place: 0,
-            bytes: 0,
-        };
+        });
     }
     put_records(buffer, p.period, l);
-    Writing {
-        refused: 0,
-        place: 0,
-        bytes: need,
-    }
+    Ok(need)
 }

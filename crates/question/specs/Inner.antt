@@ -1,24 +1,23 @@
 -- What the functions inside the crate promise each other. No contract of a public function cites this.
 -- Assumes nothing.
-use Rattle.std.specs.Prelude.{ℕ, ◌-◌, List, cond, replicate, eqb}
+use Rattle.std.specs.Prelude.{ℕ, ◌-◌, List, cond, Option, Some, None, replicate, eqb}
 use Rattle.regulator.specs.Calls.{slot_of, yield_of}
 use Rattle.regulator.specs.declared.state.State.{State}
 use Rattle.script.specs.Line.{Meaning, slot_line, yield_line, bad_line}
 use Rattle.question.specs.Ask.{Question, asks, malformed}
 use Rattle.question.specs.declared.ask.Asked.{Asked}
-use Rattle.question.specs.declared.ask.Asked.TheVariants.{Slot, Malformed}
 use Rattle.question.specs.declared.seeking.Stage.{Stage}
-use Rattle.question.specs.declared.seeking.Stage.TheVariants.{Seeking, Found, AskRefused, PlanRefused}
+use Rattle.question.specs.declared.seeking.Stage.TheVariants.{Seeking, Found, AskRefused}
 use Rattle.question.specs.declared.seeking.Search.{Search}
 
--- the document's words for each case of the reader's enum
-abbrev pub asked_by : Asked → Question
-asked_by (Slot slot number) = asks slot number
-asked_by Malformed = malformed
+-- the document's words for what the reader answers
+abbrev pub asked_by : Option Asked → Question
+asked_by None = malformed
+asked_by (Some a) = asks a.slot a.number
 
--- The stage before the first line: the refusal of the plan, then slot 0, which no script decides.
-unfoldable pub first_stage : (slot refused place : ℕ) → Stage
-first_stage slot refused place = cond (eqb refused 0) (cond (eqb slot 0) (AskRefused 61) Seeking) (PlanRefused refused place)
+-- The stage before the first line, of a plan that is not refused: no script decides slot 0.
+unfoldable pub first_stage : (slot : ℕ) → Stage
+first_stage slot = cond (eqb slot 0) (AskRefused 61) Seeking
 
 -- the search before the first line
 abbrev pub begun : Stage → State → (slot number : ℕ) → Search

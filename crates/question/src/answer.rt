@@ -2,95 +2,86 @@
 ghost use Rattle.std.specs.Prelude.{◌≡◌, nat_abs};
 ghost use Rattle.cause.specs.Cause.{totals, loose_and, told_by};
 ghost use Rattle.regulator.specs.Refusals.{slot_refusal};
-ghost use Rattle.script.specs.Output.{output, put};
+ghost use Rattle.script.specs.Output.{Puts};
 ghost use Rattle.question.specs.Answer.{signed, cause_text, told_text, ask_refused_text, slot_text};
 
 use cause::Told;
 use regulator::State;
-use script::{put_byte, put_bytes, put_field, put_number};
+use script::Text;
 
 // The size of a signed number.
 fn size(z: i32) -> u64
     ensures { result ≡ nat_abs z }
 {
-    if z < 0 {
-        return (0 - z as i64) as u64;
-    }
-    z as u64
+    u64::from(z.unsigned_abs())
 }
 
-fn put_signed(out: &mut [u8], at: usize, z: i32) -> usize
-    ensures { output out.new result ≡ put (output out.old at) (signed z) }
+fn put_signed(text: &mut Text, z: i32)
+    ensures { Puts text.old text.new (signed z) }
 {
     if z < 0 {
-        return put_field(out, at, b'-', size(z));
+        text.put_field(b'-', size(z));
+    } else {
+        text.put_number(size(z));
     }
-    put_number(out, at, size(z))
 }
 
 // Loose and the lowest domain waiting on claim, each behind a space.
-fn put_blocked(out: &mut [u8], at: usize, loose: i32, domain: u64) -> usize
-    ensures { output out.new result ≡ put (output out.old at) (cause_text (loose_and loose domain)) }
+fn put_blocked(text: &mut Text, loose: i32, domain: u64)
+    ensures { Puts text.old text.new (cause_text (loose_and loose domain)) }
 {
-    let a = put_byte(out, at, b' ');
-    let b = put_signed(out, a, loose);
-    put_field(out, b, b' ', domain)
+    text.put_byte(b' ');
+    put_signed(text, loose);
+    text.put_field(b' ', domain);
 }
 
 // What all domains yielded and reclaimed.
-fn put_totals(out: &mut [u8], at: usize, yielded: u64, reclaimed: u64) -> usize
-    ensures { output out.new result ≡ put (output out.old at) (cause_text (totals yielded reclaimed)) }
+fn put_totals(text: &mut Text, yielded: u32, reclaimed: u32)
+    ensures { Puts text.old text.new (cause_text (totals yielded reclaimed)) }
 {
-    let a = put_field(out, at, b' ', yielded);
-    put_field(out, a, b' ', reclaimed)
+    text.put_field(b' ', u64::from(yielded));
+    text.put_field(b' ', u64::from(reclaimed));
 }
 
-fn put_cause(out: &mut [u8], at: usize, cause: Told) -> usize
-    ensures { output out.new result ≡ put (output out.old at) (cause_text (told_by cause)) }
+fn put_cause(text: &mut Text, cause: Told)
+    ensures { Puts text.old text.new (cause_text (told_by cause)) }
 {
     match cause {
-        Told::Nothing => at,
-        Told::Claim => put_bytes(out, at, b" claim"),
-        Told::Stock => put_bytes(out, at, b" stock"),
-        Told::Neither => put_bytes(out, at, b" neither"),
-        Told::Granted(number) => put_field(out, at, b' ', number as u64),
-        Told::Cap(cap) => put_field(out, at, b' ', cap as u64),
-        Told::Totals { yielded, reclaimed } => put_totals(
-            out,
-            at,
-            yielded as u64,
-            reclaimed as u64,
-        ),
-        Told::Blocked { loose, domain } => put_blocked(out, at, loose, domain as u64),
+        Told::Nothing => {}
+        Told::Claim => text.put_bytes(b" claim"),
+        Told::Stock => text.put_bytes(b" stock"),
+        Told::Neither => text.put_bytes(b" neither"),
+        Told::Granted(number) => text.put_field(b' ', number as u64),
+        Told::Cap(cap) => text.put_field(b' ', u64::from(cap)),
+        Told::Totals { yielded, reclaimed } => put_totals(text, yielded, reclaimed),
+        Told::Blocked { loose, domain } => put_blocked(text, loose, domain as u64),
     }
 }
 
 // The verdict and its cause.
-fn put_told(out: &mut [u8], verdict: u8, cause: Told) -> usize
-    ensures { output out.new result ≡ put (output out.old 0) (told_text verdict (told_by cause)) }
+fn put_told(text: &mut Text, verdict: u8, cause: Told)
+    ensures { Puts text.old text.new (told_text verdict (told_by cause)) }
 {
-    let a = put_number(out, 0, verdict as u64);
-    let b = put_cause(out, a, cause);
-    put_byte(out, b, b'\n')
+    text.put_number(u64::from(verdict));
+    put_cause(text, cause);
+    text.put_byte(b'\n');
 }
 
-pub(crate) fn put_ask_refused(out: &mut [u8], number: u8) -> usize
-    ensures { output out.new result ≡ put (output out.old 0) (ask_refused_text number) }
+pub(crate) fn put_ask_refused(text: &mut Text, number: u8)
+    ensures { Puts text.old text.new (ask_refused_text number) }
 {
-    let a = put_bytes(out, 0, b"ask refused");
-    let b = put_field(out, a, b' ', number as u64);
-    put_byte(out, b, b'\n')
+    text.put_bytes(b"ask refused");
+    text.put_field(b' ', u64::from(number));
+    text.put_byte(b'\n');
 }
 
 // What is told in a slot that is decided.
-pub(crate) fn put_slot(out: &mut [u8], s: State, offers: &[u8], number: u64) -> usize
+pub(crate) fn put_slot(text: &mut Text, s: State, offers: &[u8], number: u64)
     requires { slot_refusal s offers.now 17 ≡ 0 }
-    ensures { output out.new result ≡ put (output out.old 0) (slot_text (record { given = s; offers = offers.now }) number) }
+    ensures { Puts text.old text.new (slot_text (record { given = s; offers = offers.now }) number) }
 {
-    let e = cause::explain(s, offers, number);
-    if e.refused != 0 {
-        return put_ask_refused(out, e.refused);
+    match cause::explain(s, offers, number) {
+        Ok(e) => put_told(text, e.verdict, e.cause),
+        Err(fault) => put_ask_refused(text, fault.number()),
     }
-    let told = e.cause;
-    put_told(out, e.verdict, told)
 }

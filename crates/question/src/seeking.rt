@@ -8,11 +8,11 @@ ghost use Rattle.question.specs.Seeking.{goes_on, Sound, Sought, Seeks, Started}
 ghost use Rattle.question.specs.Inner.{first_stage, begun as begun_in, over as over_at, found as found_in, onward as onward_to, search_after};
 
 use super::ask;
-use super::ask::Asked;
 use regulator::State;
 use script::Line;
 
-// How far a search is: it goes on; it found its slot; or it ended with a refusal, of the question or of the plan.
+// How far a search is: it goes on; it found its slot; or it ended with a refusal, of the question or of the plan. Refusals stay numbers:
+// `seek` and `finish` take a Search, and of enums they would ask more.
 #[derive(Clone, Copy)]
 pub enum Stage {
     Seeking,
@@ -38,15 +38,7 @@ pub struct Search {
 fn is_seeking(stage: Stage) -> bool
     ensures { result ≡ goes_on stage }
 {
-    match stage {
-        Stage::Seeking => true,
-        Stage::Found => false,
-        Stage::AskRefused(_) => false,
-        Stage::PlanRefused {
-            number: _,
-            place: _,
-        } => false,
-    }
+    matches!(stage, Stage::Seeking)
 }
 
 pub fn goes_on(q: Search) -> bool
@@ -60,24 +52,16 @@ pub fn goes_on(q: Search) -> bool
 pub fn from_start(q: Search) -> Search
     ensures { result ≡ record { stage = q.stage; state = q.state; offers = q.offers; left = q.left; number = q.number; used = 0 } }
 {
-    let mut r = q;
-    r.used = 0;
-    r
+    Search { used: 0, ..q }
 }
 
 // A search that ended with a refusal of the question: the slot is not decided.
 fn over(q: Search) -> Search
     ensures { result ≡ over_at q (AskRefused 61) }
 {
-    let state = q.state;
-    let offers = q.offers;
     Search {
         stage: Stage::AskRefused(61),
-        state,
-        offers,
-        left: q.left,
-        number: q.number,
-        used: q.used,
+        ..q
     }
 }
 
@@ -85,14 +69,10 @@ fn over(q: Search) -> Search
 fn found(q: Search, offers: [u8; 17]) -> Search
     ensures { result ≡ found_in q offers }
 {
-    let state = q.state;
     Search {
         stage: Stage::Found,
-        state,
         offers,
-        left: q.left,
-        number: q.number,
-        used: q.used,
+        ..q
     }
 }
 
@@ -100,45 +80,36 @@ fn found(q: Search, offers: [u8; 17]) -> Search
 fn onward(q: Search, state: State, left: u64, used: usize) -> Search
     ensures { result ≡ onward_to q state left used }
 {
-    let offers = q.offers;
     Search {
         stage: Stage::Seeking,
         state,
-        offers,
         left,
-        number: q.number,
         used,
+        ..q
     }
 }
 
+// (That the state adds up is required, as `engine::run_slot` and `regulator::run_yield` require it.)
 fn slot_line(q: Search, offers: [u8; 17], next: usize) -> Search
     requires state_value { adds_up q.state ≡ true }
     requires le_left { 1 ≤ q.left }
     ensures { result ≡ search_after q (slot_line offers) next }
 {
-    let s = q.state;
-    let a = engine::run_slot(s, &offers);
-    if a.refused != 0 {
-        return over(q);
+    match engine::run_slot(q.state, &offers) {
+        Err(_) => over(q),
+        Ok(_) if q.left == 1 => found(q, offers),
+        Ok(slot) => onward(q, slot.state, q.left - 1, next),
     }
-    if q.left == 1 {
-        return found(q, offers);
-    }
-    let state = a.state;
-    onward(q, state, q.left - 1, next)
 }
 
 fn yield_line(q: Search, domain: u64, k: u64, next: usize) -> Search
     requires { adds_up q.state ≡ true }
     ensures { result ≡ search_after q (yield_line domain k) next }
 {
-    let s = q.state;
-    let y = regulator::run_yield(s, domain, k);
-    if y.refused != 0 {
-        return over(q);
+    match regulator::run_yield(q.state, domain, k) {
+        Ok(state) => onward(q, state, q.left, next),
+        Err(_) => over(q),
     }
-    let state = y.state;
-    onward(q, state, q.left, next)
 }
 
 // Carries out a line, without its byte 10.
@@ -148,15 +119,15 @@ fn carry_out(q: Search, line: &[u8], next: usize) -> Search
     ensures { result ≡ search_after q (meaning_of line.now) next }
 {
     let mut offers = [0u8; 17];
-    let l = script::read_line(line, &mut offers);
-    match l {
+    match script::read_line(line, &mut offers) {
         Line::Slot => slot_line(q, offers, next),
         Line::Yield { domain, count } => yield_line(q, domain, count, next),
         Line::Bad(_) => over(q),
     }
 }
 
-// Carries out the line of a part that ends at `end`.
+// Carries out the line of a part that ends at `end`. (That a search is sound is required here and below: a Search is a value with public
+// fields that its caller keeps between the parts.)
 fn next_line(q: Search, part: &[u8], end: usize) -> Search
     requires sound { Sound q }
     requires stage_value { goes_on q.stage ≡ true }
@@ -177,28 +148,20 @@ pub fn seek(q: Search, part: &[u8]) -> Search
     ensures { Seeks part.now q result }
 {
     let mut r = q;
-    loop {
-        if goes_on(r) {} else {
-            return r;
-        }
+    while goes_on(r) {
         let end = script::line_end(part, r.used);
         if script::is_open_end(r.used, end, part.len()) {
             return r;
         }
         r = next_line(r, part, end);
     }
+    r
 }
 
-// The stage before the first line.
-fn first_stage(slot: u64, refused: u8, place: u16) -> Stage
-    ensures { result ≡ first_stage slot refused place }
+// The stage before the first line, of a plan that is not refused.
+fn first_stage(slot: u64) -> Stage
+    ensures { result ≡ first_stage slot }
 {
-    if refused != 0 {
-        return Stage::PlanRefused {
-            number: refused,
-            place,
-        };
-    }
     if slot == 0 {
         return Stage::AskRefused(61);
     }
@@ -223,18 +186,17 @@ fn begin(stage: Stage, state: State, slot: u64, number: u64) -> Search
 pub fn start(plan: &[u8], ask: &[u8]) -> Search
     ensures { Started plan.now ask.now result }
 {
-    let reading = plan::read(plan);
-    let p = reading.plan;
-    let o = regulator::open(p);
-    let state = o.state;
-    let asked = ask::read_ask(ask);
-    match asked {
-        Asked::Slot { slot, number } => begin(
-            first_stage(slot, reading.refused, reading.place),
-            state,
-            slot,
-            number,
-        ),
-        Asked::Malformed => begin(Stage::AskRefused(63), state, 0, 0),
+    let Some(asked) = ask::read_ask(ask) else {
+        return begin(Stage::AskRefused(63), regulator::no_state(), 0, 0);
+    };
+    match script::opened(plan) {
+        Ok(state) => begin(first_stage(asked.slot), state, asked.slot, asked.number),
+        Err(e) => {
+            let stage = Stage::PlanRefused {
+                number: e.fault.number(),
+                place: e.place,
+            };
+            begin(stage, regulator::no_state(), asked.slot, asked.number)
+        }
     }
 }

@@ -7,17 +7,15 @@ ghost use Rattle.regulator.specs.Forecast.{no_estimates, is_unknown, moved, next
 ghost use Rattle.regulator.specs.State.{estimate_adds_up};
 ghost use Rattle.regulator.specs.declared.forecast.Estimate.TheVariants.{Unknown};
 
-use super::numbers;
-
-// The estimate of a domain: none, or a float.
-#[derive(Clone, Copy)]
+// The estimate of a domain: none, or a float. An enum and no Option: a form of docs/DECISIONS.md that may not change.
+#[derive(Clone, Copy, Debug, PartialEq)]
 pub enum Estimate {
     Unknown,
     Known(f64),
 }
 
 // What is kept of a domain from period to period.
-#[derive(Clone, Copy)]
+#[derive(Clone, Copy, Debug, PartialEq)]
 pub struct Tracked {
     pub estimate: Estimate,
 }
@@ -36,7 +34,7 @@ pub(crate) fn no_estimates() -> [Tracked; 16]
 fn moved_by(z: f64, c: u32) -> f64
     ensures { result ≡ moved z c }
 {
-    z + (c as f64 - z) * 0.25
+    z + (f64::from(c) - z) * 0.25
 }
 
 // The estimate after a period of c access passes.
@@ -44,7 +42,7 @@ fn next_estimate(e: Estimate, c: u32) -> Estimate
     ensures { result ≡ next_estimate e c }
 {
     match e {
-        Estimate::Unknown => Estimate::Known(c as f64),
+        Estimate::Unknown => Estimate::Known(f64::from(c)),
         Estimate::Known(z) => Estimate::Known(moved_by(z, c)),
     }
 }
@@ -53,22 +51,14 @@ fn next_estimate(e: Estimate, c: u32) -> Estimate
 fn lowest_above(z: f64, q: u16) -> u16
     ensures { result ≡ lowest (at_or_above z) q }
 {
-    let mut n: u16 = 0;
-    while n < q {
-        if (n as f64) >= z {
-            return n;
-        }
-        n += 1;
-    }
-    q
+    (0..q).find(|&n| f64::from(n) >= z).unwrap_or(q)
 }
 
 // The need of a domain with reservation q.
 fn need(t: Tracked, q: u16) -> u16
     ensures { result ≡ need_of t.estimate q }
 {
-    let e = t.estimate;
-    match e {
+    match t.estimate {
         Estimate::Unknown => q,
         Estimate::Known(z) => lowest_above(z, q),
     }
@@ -78,11 +68,9 @@ fn need(t: Tracked, q: u16) -> u16
 pub(crate) fn start_claims(q: [u16; 16], tracked: [Tracked; 16]) -> [u16; 16]
     ensures { result ≡ start_claims q tracked }
 {
-    let mut claims: [u16; 16] = [0; 16];
-    let mut k = 0;
-    while k < 16 {
+    let mut claims = [0; 16];
+    for k in 0..16 {
         claims[k] = need(tracked[k], q[k]);
-        k += 1;
     }
     claims
 }
@@ -91,11 +79,9 @@ pub(crate) fn start_claims(q: [u16; 16], tracked: [Tracked; 16]) -> [u16; 16]
 pub(crate) fn left_over(q: [u16; 16], claims: [u16; 16]) -> [u16; 16]
     ensures { result ≡ values_below (λ (j : ℕ). nth q j - nth claims j) 16 }
 {
-    let mut yields: [u16; 16] = [0; 16];
-    let mut k = 0;
-    while k < 16 {
-        yields[k] = numbers::less(q[k], claims[k]);
-        k += 1;
+    let mut yields = [0; 16];
+    for k in 0..16 {
+        yields[k] = q[k].saturating_sub(claims[k]);
     }
     yields
 }
@@ -104,21 +90,19 @@ pub(crate) fn left_over(q: [u16; 16], claims: [u16; 16]) -> [u16; 16]
 fn access_passes(reserved: u16, reclaimed: u16) -> u32
     ensures { result ≡ reserved + reclaimed }
 {
-    reserved as u32 + reclaimed as u32
+    u32::from(reserved) + u32::from(reclaimed)
 }
 
 // What is kept of a domain after a period of c access passes: an estimate only if it is marked.
 fn after_close(t: Tracked, marked: bool, c: u32) -> Tracked
     ensures { result ≡ record { estimate = cond marked (next_estimate t.estimate c) Unknown } }
 {
-    if marked {
-        let e = t.estimate;
-        let f = next_estimate(e, c);
-        return Tracked { estimate: f };
-    }
-    Tracked {
-        estimate: Estimate::Unknown,
-    }
+    let estimate = if marked {
+        next_estimate(t.estimate, c)
+    } else {
+        Estimate::Unknown
+    };
+    Tracked { estimate }
 }
 
 // The estimates after a period closed.
@@ -131,12 +115,10 @@ pub(crate) fn close_all(
     ensures { result ≡ closed_with marked tracked reserved reclaimed }
 {
     let mut next = tracked;
-    let mut k = 0;
-    while k < 16 {
+    for k in 0..16 {
         let c = access_passes(reserved[k], reclaimed[k]);
         let t = after_close(tracked[k], marked[k], c);
         next[k] = t;
-        k += 1;
     }
     next
 }
@@ -145,25 +127,11 @@ pub(crate) fn close_all(
 fn estimate_adds_up(t: Tracked, marked: bool) -> bool
     ensures { result ≡ (marked || is_unknown t.estimate) }
 {
-    if marked {
-        return true;
-    }
-    let e = t.estimate;
-    match e {
-        Estimate::Unknown => true,
-        Estimate::Known(_) => false,
-    }
+    marked || matches!(t.estimate, Estimate::Unknown)
 }
 
 pub(crate) fn estimates_add_up(marked: [bool; 16], tracked: [Tracked; 16]) -> bool
     ensures { result ≡ every_below (estimate_adds_up marked tracked) 16 }
 {
-    let mut j = 0;
-    while j < 16 {
-        if estimate_adds_up(tracked[j], marked[j]) {} else {
-            return false;
-        }
-        j += 1;
-    }
-    true
+    (0..16).all(|j| estimate_adds_up(tracked[j], marked[j]))
 }

@@ -1,82 +1,57 @@
 // What a decided slot does to the state, from the number granted.
 ghost use Rattle.std.specs.Prelude.{◌≡◌, true, false, cond, ◌+◌, ◌-◌, ◌<◌, ◌≤◌, ◌≢◌, eqb, ltb, length};
-ghost use Rattle.table.specs.Sums.{nth, lowered};
+ghost use Rattle.table.specs.Sums.{nth};
 ghost use Rattle.regulator.specs.State.{adds_up};
 ghost use Rattle.regulator.specs.Turn.{after};
 ghost use Rattle.regulator.specs.Grant.{on_claim, on_stock, on_neither, on_writeback, domain_grant, grant, onward};
 
 use super::state::State;
-use super::{numbers, turn};
+use super::turn;
 
-fn on_claim(s: State, j: usize) -> State
+// (An index below 16 is required as an array asks for it; a type for it would be made and taken apart at each use.)
+fn on_claim(mut s: State, j: usize) -> State
     requires j_bound { j < 16 }
     requires j_nonzero { 0 < nth s.claim j }
     requires j_bound_2 { nth s.reserved j < 65535 }
     ensures { result ≡ on_claim s j }
 {
-    let claim = s.claim;
-    let reserved = s.reserved;
-    let less = numbers::lower(claim, j, 1);
-    let more = numbers::raise(reserved, j, 1);
-    let mut t = s;
-    t.claim = less;
-    t.reserved = more;
-    t
+    s.claim[j] -= 1;
+    s.reserved[j] += 1;
+    s
 }
 
-fn on_stock(s: State, j: usize) -> State
+fn on_stock(mut s: State, j: usize) -> State
     requires j_bound { j < 16 }
     requires stock_nonzero { 0 < s.stock }
     requires j_bound_2 { nth s.reclaimed j < 65535 }
     ensures { result ≡ on_stock s j }
 {
-    let reclaimed = s.reclaimed;
-    let more = numbers::raise(reclaimed, j, 1);
-    let mut t = s;
-    t.stock = s.stock - 1;
-    t.reclaimed = more;
-    t
-}
-
-// The claims with 1 less at index j, if there is any.
-fn use_claim(claims: [u16; 16], j: usize) -> [u16; 16]
-    requires { j < 16 }
-    ensures { result ≡ cond (ltb 0 (nth claims j)) (lowered claims j 1) claims }
-{
-    if 0 < numbers::at(claims, j) {
-        numbers::lower(claims, j, 1)
-    } else {
-        claims
-    }
+    s.stock -= 1;
+    s.reclaimed[j] += 1;
+    s
 }
 
 // A writeback, on writeback claim or on neither.
-fn on_writeback(s: State, j: usize) -> State
+fn on_writeback(mut s: State, j: usize) -> State
     requires j_bound { j < 16 }
     requires j_bound_2 { nth s.writebacks j < 65535 }
     ensures { result ≡ on_writeback s j (ltb 0 (nth s.writebackclaim j)) }
 {
-    let writebacks = s.writebacks;
-    let claims = s.writebackclaim;
-    let more = numbers::raise(writebacks, j, 1);
-    let left = use_claim(claims, j);
-    let mut t = s;
-    t.writebacks = more;
-    t.writebackclaim = left;
-    t
+    s.writebacks[j] += 1;
+    if 0 < s.writebackclaim[j] {
+        s.writebackclaim[j] -= 1;
+    }
+    s
 }
 
 // A slot that takes neither claim nor stock: best effort's, or an idle one.
 fn on_neither(s: State, idle: u16, best: u16) -> State
     ensures { result ≡ on_neither s idle best }
 {
-    let mut t = s;
-    t.idle = idle;
-    t.best = best;
-    t
+    State { idle, best, ..s }
 }
 
-// The grant of the domain at index j.
+// The grant of the domain at index j, which the definition too takes by the kind. (That the state adds up is required, as in calls.rt.)
 fn grant_domain(s: State, j: usize, writeback: bool) -> State
     requires j_bound { j < 16 }
     requires s_value { adds_up s ≡ true }
@@ -86,8 +61,7 @@ fn grant_domain(s: State, j: usize, writeback: bool) -> State
     if writeback {
         return on_writeback(s, j);
     }
-    let claim = s.claim;
-    if 0 < numbers::at(claim, j) {
+    if 0 < s.claim[j] {
         on_claim(s, j)
     } else {
         on_stock(s, j)
@@ -126,9 +100,10 @@ pub(crate) fn go_on(s: State, n: usize, steps: u32) -> State
     requires steps_bound { s.steps + steps < 4294967296 }
     ensures { result ≡ onward s n steps }
 {
-    let mut t = s;
-    t.decided = s.decided + 1;
-    t.turn = turn_after(s.turn, n);
-    t.steps = s.steps + steps;
-    t
+    State {
+        decided: s.decided + 1,
+        turn: turn_after(s.turn, n),
+        steps: s.steps + steps,
+        ..s
+    }
 }

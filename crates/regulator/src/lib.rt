@@ -9,27 +9,28 @@
 // run_slot, run_yield and run_hand_in are the same calls for a caller whose state is known to add up, as every state of a run
 // from an opened plan does: they require it, and do not check it again.
 //
-// adds_up, check_slot, without_counts, rule, mark and grant_slot are the parts of a slot call that a second engine shares: all but
-// who passes and who is granted. loose, lowest_waiting, claim_of and is_no_domain are what a caller needs that tells why.
+// A refusal is an error whose number() is the number above: plan::Refused, SlotFault, YieldFault and HandFault. The state given is
+// a value that the caller has still. no_state is the state of all zeros, which stands where no state was given.
+//
+// adds_up, check_slot, rule, mark and grant_slot are the parts of a slot call that a second engine shares: all but who passes and
+// who is granted. loose, lowest_waiting, claim_of and is_no_domain are what a caller needs that tells why.
 #![tactic(auto)]
 
 mod calls;
 mod close;
+mod faults;
 mod forecast;
 mod grant;
-mod numbers;
 mod refusals;
 mod state;
 mod turn;
 mod verdict;
 
-pub use calls::{
-    Handing, Opening, Yielding, grant_slot, hand_in, open, run_hand_in, run_slot, run_yield, slot,
-    yield_claim,
-};
-pub use close::{Answer, Counts, without_counts};
+pub use calls::{grant_slot, hand_in, open, run_hand_in, run_slot, run_yield, slot, yield_claim};
+pub use close::{Counts, Slot};
+pub use faults::{HandFault, SlotFault, YieldFault};
 pub use forecast::{Estimate, Tracked};
 pub use refusals::{check_slot, is_no_domain};
-pub use state::{State, Waiting, adds_up};
+pub use state::{State, Waiting, adds_up, no_state};
 pub use turn::mark;
 pub use verdict::{claim_of, loose, lowest_waiting, rule};

@@ -2,25 +2,19 @@
 ghost use Rattle.std.specs.Prelude.{◌≡◌, true, not, ◌&&◌, eqb, length};
 ghost use Rattle.table.specs.Ranges.{some_below};
 ghost use Rattle.regulator.specs.State.{adds_up};
-ghost use Rattle.regulator.specs.Refusals.{above_two, unplanned, offers_refusal, slot_refusal, no_domain, yield_refusal, hand_refusal};
+ghost use Rattle.regulator.specs.Refusals.{slot_refusal_by, yield_refusal_by, hand_told_by, above_two, unplanned, offers_refusal, slot_refusal, no_domain, yield_refusal, hand_refusal};
 
-use super::numbers;
+use super::faults::{HandFault, SlotFault, YieldFault};
 use super::state::State;
-use plan::{Plan, Refusal};
+use plan::Plan;
 
-// Is a byte of the offers above 2?
+// Is a byte of the offers above 2? (Offers stay a slice whose length is required, here and below: `slot` takes any, and of an array the
+// public `rule` and `lowest_waiting` would ask more.)
 fn any_above_two(offers: &[u8]) -> bool
     requires { length offers.now ≡ 17 }
     ensures { result ≡ some_below (above_two offers.now) 17 }
 {
-    let mut n = 0;
-    while n < 17 {
-        if 2 < offers[n] {
-            return true;
-        }
-        n += 1;
-    }
-    false
+    offers.iter().any(|&offer| 2 < offer)
 }
 
 fn is_unplanned(offer: u8, planned: bool) -> bool
@@ -34,94 +28,71 @@ fn any_unplanned(p: Plan, offers: &[u8]) -> bool
     requires { length offers.now ≡ 17 }
     ensures { result ≡ some_below (unplanned p offers.now) 16 }
 {
-    let mut j = 0;
-    while j < 16 {
-        if is_unplanned(offers[j + 1], p.planned[j]) {
-            return true;
-        }
-        j += 1;
-    }
-    false
+    (0..16).any(|j| is_unplanned(offers[j + 1], p.planned[j]))
 }
 
-// The refusal of offers and of a buffer of length `room` under a plan, or 0.
-fn check_offers(p: Plan, offers: &[u8], room: usize) -> u8
-    ensures { result ≡ offers_refusal p offers.now room }
+// Are offers and a buffer of length `room` refused under a plan?
+fn check_offers(p: Plan, offers: &[u8], room: usize) -> Result<(), SlotFault>
+    ensures { slot_refusal_by result ≡ offers_refusal p offers.now room }
 {
-    if offers.len() != 17 {
-        return 31;
-    }
-    if room != 17 {
-        return 31;
+    if offers.len() != 17 || room != 17 {
+        return Err(SlotFault::Length);
     }
     if any_above_two(offers) {
-        return 32;
+        return Err(SlotFault::AboveTwo);
     }
     if any_unplanned(p, offers) {
-        return 33;
+        return Err(SlotFault::Unplanned);
     }
-    0
+    Ok(())
 }
 
-// The refusal of a slot call on a state that adds up, or 0.
-pub fn check_slot(s: State, offers: &[u8], room: usize) -> u8
+// Is a slot call refused on a state that adds up? (Required here and below, as in calls.rt.)
+pub fn check_slot(s: State, offers: &[u8], room: usize) -> Result<(), SlotFault>
     requires { adds_up s ≡ true }
-    ensures { result ≡ slot_refusal s offers.now room }
+    ensures { slot_refusal_by result ≡ slot_refusal s offers.now room }
 {
-    if s.closed == 4294967295 {
-        return 34;
+    if s.closed == u32::MAX {
+        return Err(SlotFault::LastPeriod);
     }
-    let p = s.plan;
-    check_offers(p, offers, room)
+    check_offers(s.plan, offers, room)
 }
 
 // Is a number 0, above 16, or that of a domain that is not planned?
 pub fn is_no_domain(p: Plan, domain: u64) -> bool
     ensures { result ≡ no_domain p domain }
 {
-    if domain == 0 {
-        return true;
-    }
-    if 16 < domain {
-        return true;
-    }
-    let j = (domain - 1) as usize;
-    let planned = p.planned[j];
-    !planned
+    plan::is_outside(16, domain) || !p.planned[(domain - 1) as usize]
 }
 
-// The refusal of a yield on a state that adds up, or 0.
-pub(crate) fn check_yield(s: State, domain: u64, k: u64) -> u8
+// Is a yield refused on a state that adds up?
+pub(crate) fn check_yield(s: State, domain: u64, k: u64) -> Result<(), YieldFault>
     requires { adds_up s ≡ true }
-    ensures { result ≡ yield_refusal s domain k }
+    ensures { yield_refusal_by result ≡ yield_refusal s domain k }
 {
-    if s.closed == 4294967295 {
-        return 34;
+    if s.closed == u32::MAX {
+        return Err(YieldFault::LastPeriod);
     }
-    let p = s.plan;
-    if is_no_domain(p, domain) {
-        return 21;
+    if is_no_domain(s.plan, domain) {
+        return Err(YieldFault::NoDomain);
     }
     if k == 0 {
-        return 22;
+        return Err(YieldFault::Nothing);
     }
-    let claim = s.claim;
-    if (numbers::at(claim, (domain - 1) as usize) as u64) < k {
-        return 23;
+    if u64::from(s.claim[(domain - 1) as usize]) < k {
+        return Err(YieldFault::AboveClaim);
     }
-    0
+    Ok(())
 }
 
-// The refusal of a plan handed in on a state that adds up, or 0.
-pub(crate) fn check_hand_in(s: State, p: Plan) -> Refusal
+// Is a plan handed in refused on a state that adds up?
+pub(crate) fn check_hand_in(s: State, p: Plan) -> Result<(), HandFault>
     requires { adds_up s ≡ true }
-    ensures { result ≡ hand_refusal s p }
+    ensures { hand_told_by result ≡ hand_refusal s p }
 {
-    if s.closed == 4294967295 {
-        return Refusal {
-            refused: 34,
-            place: 0,
-        };
+    if s.closed == u32::MAX {
+        return Err(HandFault::LastPeriod);
     }
-    plan::check(p)
+    plan::check(p)?;
+    Ok(())
 }

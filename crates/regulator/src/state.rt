@@ -3,14 +3,16 @@ ghost use Rattle.std.specs.Prelude.{◌≡◌, ◌&&◌, ◌+◌, ◌-◌, ◌<�
 ghost use Rattle.table.specs.Sums.{nth, sum};
 ghost use Rattle.table.specs.Ranges.{every_below};
 ghost use Rattle.plan.specs.Value.{no_domains};
-ghost use Rattle.regulator.specs.State.{begun, numbers_add_up, domain_adds_up, sums_add_up, steps_add_up, waiting_adds_up, adds_up, yielding, handing};
+ghost use Rattle.regulator.specs.Forecast.{no_estimates};
+ghost use Rattle.regulator.specs.State.{begun, domain_adds_up, sums_add_up, steps_add_up, waiting_adds_up, adds_up, yielding, handing};
 
+use super::forecast;
 use super::forecast::Tracked;
-use super::{forecast, numbers};
 use plan::Plan;
 
-// The plan that waits for the end of the open period, or none: where `given` is false the plan beside it is not looked at.
-#[derive(Clone, Copy)]
+// The plan that waits for the end of the open period, or none: where `given` is false the plan beside it is not looked at. It is no
+// Option, which would exclude states with such a plan beside: tests give them, and `hand_in`'s promise is of them too.
+#[derive(Clone, Copy, PartialEq, Eq)]
 pub struct Waiting {
     pub given: bool,
     pub plan: Plan,
@@ -19,7 +21,7 @@ pub struct Waiting {
 // The state of a period. Index n - 1 of the arrays is domain number n; decided is the number of slots decided, closed of
 // periods closed, best of best-effort passes, and steps of the numbers asked and passed by in the period; plan is the one in
 // force, claim is of accesses, and writebackclaim of writebacks; tracked holds the estimates.
-#[derive(Clone, Copy)]
+#[derive(Clone, Copy, PartialEq)]
 pub struct State {
     pub plan: Plan,
     pub decided: u16,
@@ -39,32 +41,15 @@ pub struct State {
     pub tracked: [Tracked; 16],
 }
 
-// The plan of all zeros.
-pub(crate) fn no_plan() -> Plan
-    ensures { result ≡ no_domains 0 }
-{
-    Plan {
-        period: 0,
-        planned: [false; 16],
-        reservation: [0; 16],
-        reclaimcap: [0; 16],
-        writebackcap: [0; 16],
-        writebackreservation: [0; 16],
-        marked: [false; 16],
-    }
-}
-
 // A period begins, and no plan waits.
 pub(crate) fn begin(p: Plan, closed: u32, turn: usize, tracked: [Tracked; 16]) -> State
     requires { sum p.reservation < 65536 }
     ensures { result ≡ begun p closed turn tracked }
 {
-    let q = p.reservation;
-    let claim = forecast::start_claims(q, tracked);
-    let yielded = forecast::left_over(q, claim);
+    let claim = forecast::start_claims(p.reservation, tracked);
+    let yielded = forecast::left_over(p.reservation, claim);
     let stock = table::total(yielded) as u16;
     let writebackclaim = p.writebackreservation;
-    let none = no_plan();
     State {
         plan: p,
         decided: 0,
@@ -81,171 +66,101 @@ pub(crate) fn begin(p: Plan, closed: u32, turn: usize, tracked: [Tracked; 16]) -
         steps: 0,
         waiting: Waiting {
             given: false,
-            plan: none,
+            plan: plan::no_domains(0),
         },
         writebackclaim,
         tracked,
     }
 }
 
-// Do the numbers of one domain add up?
-fn numbers_add_up(
-    claim: u16,
-    reserved: u16,
-    reclaimed: u16,
-    yielded: u16,
-    writebacks: u16,
-    writebackclaim: u16,
-    q: u16,
-    r: u16,
-    w: u16,
-    writebackreservation: u16,
-) -> bool
-    ensures { result ≡ numbers_add_up claim reserved reclaimed yielded writebacks writebackclaim q r w writebackreservation }
+// The state of all zeros, which stands where no state was given.
+pub fn no_state() -> State
+    ensures { result ≡ begun (no_domains 0) 0 0 no_estimates }
 {
-    let left = numbers::less(writebackreservation, writebacks);
-    claim as u32 + reserved as u32 + yielded as u32 == q as u32
-        && (reclaimed <= r && (writebacks <= w && writebackclaim == left))
+    begin(plan::no_domains(0), 0, 0, forecast::no_estimates())
 }
 
-fn domains_add_up(s: State) -> bool
-    ensures { result ≡ every_below (domain_adds_up s) 16 }
+// Do the numbers of the domain at index j add up? (The index is required to be in the arrays, as in grant.rt.)
+fn domain_adds_up(s: &State, j: usize) -> bool
+    requires { j < 16 }
+    ensures { result ≡ domain_adds_up s.now j }
 {
-    let p = s.plan;
-    let mut j = 0;
-    while j < 16 {
-        if numbers_add_up(
-            s.claim[j],
-            s.reserved[j],
-            s.reclaimed[j],
-            s.yielded[j],
-            s.writebacks[j],
-            s.writebackclaim[j],
-            p.reservation[j],
-            p.reclaimcap[j],
-            p.writebackcap[j],
-            p.writebackreservation[j],
-        ) {} else {
-            return false;
-        }
-        j += 1;
-    }
-    true
+    let p = &s.plan;
+    let spread = u32::from(s.claim[j]) + u32::from(s.reserved[j]) + u32::from(s.yielded[j]);
+    spread == u32::from(p.reservation[j])
+        && s.reclaimed[j] <= p.reclaimcap[j]
+        && s.writebacks[j] <= p.writebackcap[j]
+        && s.writebackclaim[j] == p.writebackreservation[j].saturating_sub(s.writebacks[j])
 }
 
-// Do the sums of a state add up, with those of its arrays given?
-fn sums_add_up(
-    stock: u16,
-    idle: u16,
-    best: u16,
-    decided: u16,
-    reserved: u32,
-    reclaimed: u32,
-    yielded: u32,
-    writebacks: u32,
-) -> bool
-    requires { (reserved ≤ 1048560) × (reclaimed ≤ 1048560) × (writebacks ≤ 1048560) }
-    ensures { result ≡ sums_add_up stock idle best decided reserved reclaimed yielded writebacks }
+fn domains_add_up(s: &State) -> bool
+    ensures { result ≡ every_below (domain_adds_up s.now) 16 }
 {
-    stock as u32 + reclaimed == yielded
-        && idle as u32 + best as u32 + reserved + reclaimed + writebacks == decided as u32
+    (0..16).all(|j| domain_adds_up(s, j))
+}
+
+// Do the sums of a state add up?
+fn sums_add_up(s: &State) -> bool
+    ensures { result ≡ sums_add_up s.now.stock s.now.idle s.now.best s.now.decided (sum s.now.reserved) (sum s.now.reclaimed) (sum s.now.yielded) (sum s.now.writebacks) }
+{
+    let reclaimed = table::total(s.reclaimed);
+    let accesses = table::total(s.reserved) + reclaimed;
+    let others = u32::from(s.idle) + u32::from(s.best);
+    u32::from(s.stock) + reclaimed == table::total(s.yielded)
+        && others + accesses + table::total(s.writebacks) == u32::from(s.decided)
 }
 
 // Does the running sum of steps add up? 17 for each idle slot, and at most 16 for each other.
-fn steps_add_up(steps: u32, idle: u16, decided: u16) -> bool
-    ensures { result ≡ steps_add_up steps idle decided }
+fn steps_add_up(s: &State) -> bool
+    ensures { result ≡ steps_add_up s.now.steps s.now.idle s.now.decided }
 {
-    let least = 17 * idle as u32;
-    let most = least + 16 * numbers::less(decided, idle) as u32;
-    least <= steps && steps <= most
+    let least = 17 * u32::from(s.idle);
+    let most = least + 16 * u32::from(s.decided.saturating_sub(s.idle));
+    least <= s.steps && s.steps <= most
 }
 
 // Would the waiting plan be accepted, if one waits?
 fn waiting_adds_up(w: Waiting) -> bool
     ensures { result ≡ waiting_adds_up w }
 {
-    if w.given {
-        let p = w.plan;
-        let refusal = plan::check(p);
-        refusal.refused == 0
-    } else {
-        true
-    }
-}
-
-fn all_eight(a: bool, b: bool, c: bool, d: bool, e: bool, f: bool, g: bool, h: bool) -> bool
-    ensures { result ≡ (a && (b && (c && (d && (e && (f && (g && h))))))) }
-{
-    a && (b && (c && (d && (e && (f && (g && h))))))
+    !w.given || plan::check(w.plan).is_ok()
 }
 
 // Does a state add up?
 pub fn adds_up(s: State) -> bool
     ensures { result ≡ adds_up s }
 {
-    let p = s.plan;
-    let refusal = plan::check(p);
-    let reserved = s.reserved;
-    let reclaimed = s.reclaimed;
-    let yielded = s.yielded;
-    let writebacks = s.writebacks;
-    let domains = domains_add_up(s);
-    let sums = sums_add_up(
-        s.stock,
-        s.idle,
-        s.best,
-        s.decided,
-        table::total(reserved),
-        table::total(reclaimed),
-        table::total(yielded),
-        table::total(writebacks),
-    );
-    let steps = steps_add_up(s.steps, s.idle, s.decided);
-    let w = s.waiting;
-    let waiting = waiting_adds_up(w);
-    let marked = p.marked;
-    let tracked = s.tracked;
-    let estimates = forecast::estimates_add_up(marked, tracked);
-    all_eight(
-        refusal.refused == 0,
-        s.decided < p.period,
-        s.turn <= 16,
-        domains,
-        sums,
-        steps,
-        waiting,
-        estimates,
-    )
+    plan::check(s.plan).is_ok()
+        && s.decided < s.plan.period
+        && s.turn <= 16
+        && domains_add_up(&s)
+        && sums_add_up(&s)
+        && steps_add_up(&s)
+        && waiting_adds_up(s.waiting)
+        && forecast::estimates_add_up(s.plan.marked, s.tracked)
 }
 
 // k of the claim at index j moves to the stock.
-pub(crate) fn move_claim(s: State, j: usize, k: u16) -> State
+pub(crate) fn move_claim(mut s: State, j: usize, k: u16) -> State
     requires j_bound { j < 16 }
     requires k_bound { k ≤ nth s.claim j }
     requires k_bound_2 { s.stock + k < 65536 }
     requires k_bound_3 { nth s.yielded j + k < 65536 }
     ensures { result ≡ yielding s j k }
 {
-    let claim = s.claim;
-    let yielded = s.yielded;
-    let less = numbers::lower(claim, j, k);
-    let more = numbers::raise(yielded, j, k);
-    let mut t = s;
-    t.stock = s.stock + k;
-    t.claim = less;
-    t.yielded = more;
-    t
+    s.stock += k;
+    s.claim[j] -= k;
+    s.yielded[j] += k;
+    s
 }
 
 // A plan waits, in place of whatever waited.
 pub(crate) fn let_wait(s: State, p: Plan) -> State
     ensures { result ≡ handing s p }
 {
-    let w = Waiting {
+    let waiting = Waiting {
         given: true,
         plan: p,
     };
-    let mut t = s;
-    t.waiting = w;
-    t
+    State { waiting, ..s }
 }

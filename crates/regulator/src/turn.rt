@@ -18,6 +18,7 @@ pub(crate) struct Picked {
     pub steps: u32,
 }
 
+// A loop that yields the number by break, or 17: a form of docs/DECISIONS.md that may not change.
 // The first number from the turn on whose ruling is 2, or 17; and how far it is from the turn.
 pub(crate) fn pick(rulings: &[u8], turn: usize) -> Picked
     requires rulings_len { length rulings.now ≡ 17 }

@@ -1,10 +1,38 @@
 // What each number is told in a slot, before one of those that pass is granted: 2 for one that passes.
-ghost use Rattle.std.specs.Prelude.{◌≡◌, not, ◌&&◌, ◌≤◌, eqb, length, pos, ◌-ℤ◌};
+ghost use Rattle.std.specs.Prelude.{◌≡◌, not, ◌&&◌, ◌<◌, ◌≤◌, eqb, length, pos, ◌-ℤ◌, unwrap_or, IfSome};
+ghost use Rattle.table.specs.Sums.{nth};
 ghost use Rattle.table.specs.Ranges.{lowest};
-ghost use Rattle.regulator.specs.Verdict.{at_cap, claim_of, waits, waiting, loose as loose_of, blocked as blocked_in, ruling, best_ruling, domain_ruling};
+ghost use Rattle.regulator.specs.Verdict.{at_cap, claim_of, waits, waiting, loose as loose_of, blocked as blocked_in, ruling, best_ruling, domain_ruling, ruling_number};
 ghost use Rattle.regulator.specs.Turn.{rulings};
 
 use super::state::State;
+
+// What a number is told before one of those that pass is granted.
+#[derive(Clone, Copy, Debug, PartialEq, Eq)]
+enum Ruling {
+    NoOffer,
+    AtCap,
+    Passes,
+    ReclaimedFull,
+    NoStock,
+    Blocked,
+}
+
+impl Ruling {
+    // Its number in the verdict buffer.
+    fn number(self) -> u8
+        ensures { result ≡ ruling_number self }
+    {
+        match self {
+            Ruling::NoOffer => 0,
+            Ruling::AtCap => 3,
+            Ruling::Passes => 2,
+            Ruling::ReclaimedFull => 4,
+            Ruling::NoStock => 5,
+            Ruling::Blocked => 6,
+        }
+    }
+}
 
 // A writeback with writebacks = W?
 fn is_at_cap(offer: u8, writebacks: u16, w: u16) -> bool
@@ -28,19 +56,13 @@ fn is_waiting(offer: u8, claim: u16, writebackclaim: u16) -> bool
     offer != 0 && 0 < left
 }
 
-// The index of the lowest domain that is waiting on claim, or 16.
-pub fn lowest_waiting(s: State, offers: &[u8]) -> usize
+// The index of the lowest domain that is waiting on claim. (The length of the offers is required here and below, as in refusals.rt.)
+pub fn lowest_waiting(s: State, offers: &[u8]) -> Option<usize>
     requires { length offers.now ≡ 17 }
-    ensures { result ≡ lowest (waiting s offers.now) 16 }
+    ensures lowest { unwrap_or result 16 ≡ lowest (waiting s offers.now) 16 }
+    ensures below { IfSome result (λ j. j < 16) }
 {
-    let mut j = 0;
-    while j < 16 {
-        if is_waiting(offers[j + 1], s.claim[j], s.writebackclaim[j]) {
-            return j;
-        }
-        j += 1;
-    }
-    16
+    (0..16).find(|&j| is_waiting(offers[j + 1], s.claim[j], s.writebackclaim[j]))
 }
 
 // The slots left less the summed claims.
@@ -48,7 +70,7 @@ fn difference(left: u16, claims: u32) -> i32
     requires { claims ≤ 2097120 }
     ensures { result ≡ pos left -ℤ pos claims }
 {
-    left as i32 - claims as i32
+    i32::from(left) - claims as i32
 }
 
 // Loose: it may be below zero.
@@ -56,11 +78,8 @@ pub fn loose(s: State) -> i32
     requires { s.decided ≤ s.plan.period }
     ensures { result ≡ loose_of s }
 {
-    let p = s.plan;
-    let claim = s.claim;
-    let writebackclaim = s.writebackclaim;
-    let claims = table::total(claim) + table::total(writebackclaim);
-    difference(p.period - s.decided, claims)
+    let claims = table::total(s.claim) + table::total(s.writebackclaim);
+    difference(s.plan.period - s.decided, claims)
 }
 
 pub(crate) fn is_blocked(s: State, offers: &[u8]) -> bool
@@ -68,35 +87,39 @@ pub(crate) fn is_blocked(s: State, offers: &[u8]) -> bool
     requires offers_len { length offers.now ≡ 17 }
     ensures { result ≡ blocked_in s offers.now }
 {
-    let tight = loose(s) <= 0;
-    let some = lowest_waiting(s, offers) < 16;
-    tight && some
+    loose(s) <= 0 && lowest_waiting(s, offers).is_some()
 }
 
 // The first line that applies, of the lines' tests.
-fn first_line(none: bool, capped: bool, claimed: bool, full: bool, empty: bool, blocked: bool) -> u8
-    ensures { result ≡ ruling none capped claimed full empty blocked }
+fn first_line(
+    none: bool,
+    capped: bool,
+    claimed: bool,
+    full: bool,
+    empty: bool,
+    blocked: bool,
+) -> Ruling
+    ensures { ruling_number result ≡ ruling none capped claimed full empty blocked }
 {
     if none {
-        return 0;
+        Ruling::NoOffer
+    } else if capped {
+        Ruling::AtCap
+    } else if claimed {
+        Ruling::Passes
+    } else if full {
+        Ruling::ReclaimedFull
+    } else if empty {
+        Ruling::NoStock
+    } else if blocked {
+        Ruling::Blocked
+    } else {
+        Ruling::Passes
     }
-    if capped {
-        return 3;
-    }
-    if claimed {
-        return 2;
-    }
-    if full {
-        return 4;
-    }
-    if empty {
-        return 5;
-    }
-    if blocked { 6 } else { 2 }
 }
 
-fn rule_best(offer: u8, blocked: bool) -> u8
-    ensures { result ≡ best_ruling offer blocked }
+fn rule_best(offer: u8, blocked: bool) -> Ruling
+    ensures { ruling_number result ≡ best_ruling offer blocked }
 {
     first_line(offer == 0, false, false, false, false, blocked)
 }
@@ -108,23 +131,15 @@ fn of_access(offer: u8, test: bool) -> bool
     offer != 2 && test
 }
 
-fn rule_domain(
-    offer: u8,
-    claim: u16,
-    reclaimed: u16,
-    writebacks: u16,
-    writebackclaim: u16,
-    r: u16,
-    w: u16,
-    stock: u16,
-    blocked: bool,
-) -> u8
-    ensures { result ≡ domain_ruling offer claim reclaimed writebacks writebackclaim r w stock blocked }
+// The ruling of the domain at index j.
+fn rule_domain(s: &State, j: usize, offer: u8, blocked: bool) -> Ruling
+    requires { j < 16 }
+    ensures { ruling_number result ≡ domain_ruling offer (nth s.now.claim j) (nth s.now.reclaimed j) (nth s.now.writebacks j) (nth s.now.writebackclaim j) (nth s.now.plan.reclaimcap j) (nth s.now.plan.writebackcap j) s.now.stock blocked }
 {
-    let capped = is_at_cap(offer, writebacks, w);
-    let left = claim_of(offer, claim, writebackclaim);
-    let full = of_access(offer, reclaimed == r);
-    let empty = of_access(offer, stock == 0);
+    let capped = is_at_cap(offer, s.writebacks[j], s.plan.writebackcap[j]);
+    let left = claim_of(offer, s.claim[j], s.writebackclaim[j]);
+    let full = of_access(offer, s.reclaimed[j] == s.plan.reclaimcap[j]);
+    let empty = of_access(offer, s.stock == 0);
     first_line(offer == 0, capped, 0 < left, full, empty, blocked)
 }
 
@@ -135,21 +150,8 @@ pub fn rule(s: State, offers: &[u8], blocked: bool, verdicts: &mut [u8])
     requires verdicts_len { length verdicts.old ≡ 17 }
     ensures { verdicts.new ≡ rulings s offers.now }
 {
-    let p = s.plan;
-    verdicts[0] = rule_best(offers[0], blocked);
-    let mut j = 0;
-    while j < 16 {
-        verdicts[j + 1] = rule_domain(
-            offers[j + 1],
-            s.claim[j],
-            s.reclaimed[j],
-            s.writebacks[j],
-            s.writebackclaim[j],
-            p.reclaimcap[j],
-            p.writebackcap[j],
-            s.stock,
-            blocked,
-        );
-        j += 1;
+    verdicts[0] = rule_best(offers[0], blocked).number();
+    for j in 0..16 {
+        verdicts[j + 1] = rule_domain(&s, j, offers[j + 1], blocked).number();
     }
 }

@@ -5,6 +5,7 @@ ghost use Rattle.std.specs.Prelude.{◌≡◌, length};
 ghost use Rattle.parts.specs.Input.{Kept};
 ghost use Rattle.replay.specs.Buffers.{Within};
 
+use parts::{Behind, Part};
 use script::Run;
 use std::io::{Read, Write};
 
@@ -14,24 +15,11 @@ const BUFFER: usize = 65536;
 // The bytes of the output buffer that are kept free for what one line prints.
 const ROOM: usize = 512;
 
-// A script that is read part by part: the run, the bytes of the part in hand, whether there may be more, and whether the system failed
-// to read or to write.
+// A script that is read part by part: the run, and the part in hand. A write that fails ends it as a read that fails does.
 #[derive(Clone, Copy)]
 struct Stream {
     run: Run,
-    filled: usize,
-    more: bool,
-    failed: bool,
-}
-
-// The run, with other places in the two buffers.
-fn placed(r: Run, used: usize, at: usize) -> Run
-    ensures { result ≡ record { state = r.state; line = r.line; refused = r.refused; used = used; at = at } }
-{
-    let mut q = r;
-    q.used = used;
-    q.at = at;
-    q
+    part: Part,
 }
 
 // Keeps what is left of the part, and reads more of the script behind it.
@@ -43,32 +31,26 @@ fn read_more<R: Read>(
     out_room: usize,
 ) -> Stream
     requires { Within r filled (length text.old) out_room }
-    ensures within { Within result.run result.filled (length text.new) out_room }
+    ensures within { Within result.run result.part.filled (length text.new) out_room }
     ensures kept { Kept r.used filled text.old text.new }
 {
     let part = parts::refill(source, text, r.used, filled);
-    let run = placed(r, 0, r.at);
-    Stream {
-        run,
-        filled: part.filled,
-        more: part.more,
-        failed: part.failed,
-    }
+    let run = Run { used: 0, ..r };
+    Stream { run, part }
 }
 
 // Writes the text out, and goes on with an empty output buffer.
 fn write_block<W: Write>(r: Run, filled: usize, room: usize, out: &[u8], sink: &mut W) -> Stream
     requires { Within r filled room (length out.now) }
-    ensures { Within result.run result.filled room (length out.now) }
+    ensures { Within result.run result.part.filled room (length out.now) }
 {
-    let written = sink.write_all(&out[..r.at]).is_ok();
-    let run = placed(r, r.used, 0);
-    Stream {
-        run,
-        filled,
-        more: written,
-        failed: !written,
-    }
+    let behind = match sink.write_all(&out[..r.at]) {
+        Ok(()) => Behind::More,
+        Err(_) => Behind::Failure,
+    };
+    let run = Run { at: 0, ..r };
+    let part = Part { filled, behind };
+    Stream { run, part }
 }
 
 // Carries out the lines of the part, and then makes room in one of the two buffers.
@@ -79,18 +61,17 @@ fn advance<R: Read, W: Write>(
     sink: &mut W,
     out: &mut [u8],
 ) -> Stream
-    requires { Within s.run s.filled (length text.old) (length out.old) }
-    ensures { Within result.run result.filled (length text.new) (length out.new) }
+    requires { Within s.run s.part.filled (length text.old) (length out.old) }
+    ensures { Within result.run result.part.filled (length text.new) (length out.new) }
 {
-    let filled = s.filled;
+    let filled = s.part.filled;
     let run = script::feed(s.run, &text[..filled], out, ROOM);
     if run.refused != 0 {
-        return Stream {
-            run,
+        let part = Part {
             filled,
-            more: false,
-            failed: false,
+            behind: Behind::End,
         };
+        return Stream { run, part };
     }
     if out.len() - run.at < ROOM {
         return write_block(run, filled, text.len(), out, sink);
@@ -107,21 +88,19 @@ fn read_script<R: Read, W: Write>(
     out: &mut [u8],
 ) -> Stream
     requires { Within run 0 (length text.old) (length out.old) }
-    ensures { Within result.run result.filled (length text.new) (length out.new) }
+    ensures { Within result.run result.part.filled (length text.new) (length out.new) }
 {
-    let mut s = Stream {
-        run,
+    let part = Part {
         filled: 0,
-        more: true,
-        failed: false,
+        behind: Behind::More,
     };
-    let mut turns = u64::MAX;
-    while turns > 0 {
-        if !s.more {
+    let mut s = Stream { run, part };
+    // Not a bare loop: a function is proved to end, and no script has so many parts.
+    for _ in 0..u64::MAX {
+        if s.part.behind != Behind::More {
             return s;
         }
         s = advance(s, source, text, sink, out);
-        turns -= 1;
     }
     s
 }
@@ -132,13 +111,13 @@ fn complain(rt: &impl Eprint) {
 
 // The end of the run: the rest of the text. Tells whether the text is whole.
 fn conclude<W: Write>(s: Stream, text: &[u8], sink: &mut W, out: &mut [u8]) -> bool
-    requires { Within s.run s.filled (length text.now) (length out.old) }
+    requires { Within s.run s.part.filled (length text.now) (length out.old) }
 {
-    if s.failed {
+    if s.part.behind == Behind::Failure {
         let _ = sink.write_all(&out[..s.run.at]);
         return false;
     }
-    let at = script::finish(s.run, &text[..s.filled], out);
+    let at = script::finish(s.run, &text[..s.part.filled], out);
     sink.write_all(&out[..at]).is_ok()
 }
 

@@ -1,33 +1,49 @@
 -- What the functions inside the crate, and those that a second program over scripts shares, promise each other. No contract of a public
 -- function without a `requires` cites this.
 -- Assumes nothing.
-use Rattle.std.specs.Prelude.{ℕ, ◌+◌, ◌-◌, ◌≤◌, ◌<◌, ◌≡◌, List, Bool, true, false, cond, ◌&&◌, length, take, drop, eqb, ltb}
+use Rattle.std.specs.Prelude.{ℕ, ◌+◌, ◌-◌, ◌≤◌, ◌<◌, ◌≡◌, List, Bool, true, cond, ◌&&◌, Option, Some, None, Result, Ok, Err, length, take, drop, eqb, ltb}
 use Rattle.table.specs.Sums.{nth}
 use Rattle.script.specs.Line.{is_number, value_of, before, behind}
+use Rattle.regulator.specs.Refusals.{slot_number, yield_number}
 use Rattle.script.specs.Replay.{Done}
-use Rattle.script.specs.Output.{output, put}
+use Rattle.script.specs.declared.carrying.LineFault.{LineFault}
+use Rattle.script.specs.declared.carrying.LineFault.TheVariants.{Form, Slot, Yield}
+use Rattle.script.specs.Output.{Output, put}
 use Rattle.script.specs.Feeding.{unended}
 use Rattle.script.specs.declared.line.Numbers.{Numbers}
-use Rattle.script.specs.declared.carrying.Step.{Step}
+use Rattle.regulator.specs.declared.state.State.{State}
 
--- What a search for the first space of a list answers: its place, or the length where there is none.
-pub record Space (bs : List ℕ) (n : ℕ) : Type 0 where
-  pub within : n ≤ length bs
-  pub ahead : before bs ≡ take n bs
-  pub after : behind bs ≡ drop (n + 1) bs
+-- the number that bytes write in at most so many digits
+unfoldable pub number_in : ℕ → List ℕ → Option ℕ
+number_in most bs = cond (is_number most bs) (Some (value_of bs)) None
 
 -- Two numbers with a space between them, of at most so many digits each, where bytes write them.
-unfoldable pub numbers_in : (most more : ℕ) → List ℕ → Numbers
+unfoldable pub numbers_in : (most more : ℕ) → List ℕ → Option Numbers
 numbers_in most more bs =
     cond (is_number most (before bs) && is_number more (behind bs))
-    (record { written = true; first = value_of (before bs); second = value_of (behind bs) })
-    (record { written = false; first = 0; second = 0 })
+    (Some (record { first = value_of (before bs); second = value_of (behind bs) }))
+    None
 
--- A line that was carried out: what it did, and what it printed went to the buffer.
-pub record Stepped (d : Done) (before : List ℕ) (at : ℕ) (r : Step) (after : List ℕ) : Type 0 where
-  pub refused : r.refused ≡ d.refused
-  pub state : r.state ≡ d.state
-  pub shown : output after r.at ≡ put (output before at) d.prints
+-- The number that refuses a line: 41 where it is of neither form, or that of the call.
+abbrev pub line_number : LineFault → ℕ
+line_number Form = 41
+line_number (Slot e) = slot_number e
+line_number (Yield e) = yield_number e
+
+-- what a line that was carried out from s answers: 0 or the number that refused it, and the state after it
+abbrev pub refused_by : Result State LineFault → ℕ
+refused_by (Ok t) = 0
+refused_by (Err e) = line_number e
+
+abbrev pub state_by : State → Result State LineFault → State
+state_by s (Ok t) = t
+state_by s (Err e) = s
+
+-- It did what the line asks for, and what it printed went to the buffer.
+pub record Stepped (d : Done) (s : State) (r : Result State LineFault) (before after : Output) : Type 0 where
+  pub number : refused_by r ≡ d.refused
+  pub next : state_by s r ≡ d.state
+  pub shown : after ≡ put before d.prints
 
 -- A search for the end of the line that starts at `from` stops at its byte 10; after 20 bytes, which is more than a line of either form
 -- has, so that it is refused whatever follows; or at the end of the part.

@@ -1,7 +1,9 @@
 -- The replay (document 01, 'The replay program'): all that it prints, from the bytes of the plan file and of the script.
 -- Assumes nothing.
-use Rattle.std.specs.Prelude.{ℕ, ◌+◌, List, [], ◌∷◌, ◌++◌, cond, length, eqb}
+use Rattle.std.specs.Prelude.{ℕ, ◌+◌, List, [], ◌∷◌, ◌++◌, cond, length, eqb, ◌≡◌, Result, Ok, Err}
+use Rattle.plan.specs.Value.{number}
 use Rattle.plan.specs.Reading.{read_plan}
+use Rattle.plan.specs.declared.refusal.Refused.{Refused}
 use Rattle.regulator.specs.Calls.{open_plan, slot_of, yield_of}
 use Rattle.regulator.specs.declared.state.State.{State}
 use Rattle.script.specs.Line.{Meaning, slot_line, yield_line, bad_line, meaning_of}
@@ -42,6 +44,11 @@ carried_out s (slot_line offers) =
     }
 carried_out s (yield_line domain k) = record { refused = (yield_of s domain k).refused; state = (yield_of s domain k).state; prints = [] }
 carried_out s (bad_line number) = record { refused = number; state = s; prints = [] }
+
+-- What opening a plan file answers: the state that the plan starts with; or the number of its refusal, and the place.
+abbrev pub Opened : (plan : List ℕ) → Result State Refused → Type 0
+Opened plan (Ok s) = ((read_plan plan).refused ≡ 0) × (s ≡ (open_plan (read_plan plan).plan).state)
+Opened plan (Err e) = ((read_plan plan).refused ≡ number e.fault) × ((read_plan plan).place ≡ e.place)
 
 -- What is printed from line L on, in a state. "A refused line prints `line L refused N` (L from 1) after what stands printed and ends the
 -- run without `open`." "A last part without byte 10 is refused with 41." (An empty last part is none.)

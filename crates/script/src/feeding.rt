@@ -1,11 +1,14 @@
 // The replay: lines carried out one after the other, on a script in memory or on one that comes part by part.
 ghost use Rattle.std.specs.Prelude.{◌≡◌, false, List, ℕ, ◌≤◌, ◌<◌, min, length, drop};
-ghost use Rattle.script.specs.Replay.{replay_text};
+ghost use Rattle.script.specs.Replay.{Opened, replay_text};
 ghost use Rattle.script.specs.Output.{output, put, holding};
 ghost use Rattle.script.specs.Feeding.{rest_text, Sound, lacks_room, Fed, Feeds, Started};
 ghost use Rattle.script.specs.Inner.{LineEnd, open_end};
 
+use super::line::place_of;
+use super::output::Text;
 use super::{carrying, text};
+use plan::Refused;
 use regulator::State;
 
 // More bytes than a line of either form has.
@@ -15,7 +18,8 @@ const TOO_LONG: usize = 20;
 const SLOT_LINE: usize = 20;
 
 // A replay between two lines: the state, the number of the next line, 0 or the number that refused the plan or a line, the bytes of the
-// part of the script in hand that are done, and the bytes of text in the lent buffer.
+// part of the script in hand that are done, and the bytes of text in the lent buffer. `refused` stays a number, 0 for none: so the
+// definitions tell what is left to print (`rest_text`, `Feeds`), and it is printed as it stands.
 #[derive(Clone, Copy)]
 pub struct Run {
     pub state: State,
@@ -30,17 +34,9 @@ pub fn line_end(part: &[u8], from: usize) -> usize
     requires { from ≤ length part.now }
     ensures { LineEnd part.now from result }
 {
-    let mut i = from;
-    while i < part.len() {
-        if part[i] == b'\n' {
-            return i;
-        }
-        if i - from == TOO_LONG {
-            return i;
-        }
-        i += 1;
-    }
-    i
+    let rest = &part[from..];
+    let most = rest.len().min(TOO_LONG);
+    from + place_of(b'\n', &rest[..most]).unwrap_or(most)
 }
 
 // Carries out the line of a part that ends at `end`.
@@ -53,26 +49,25 @@ fn next_line(r: Run, part: &[u8], end: usize, out: &mut [u8], room: usize) -> Ru
     ensures fed { Fed part.now room r out.old result out.new }
     ensures used_lt_used { result.refused ≡ 0 → r.used < result.used }
 {
-    let used = r.used;
-    let s = r.state;
-    let step = carrying::carry_out(s, &part[used..end], out, r.at);
-    let state = step.state;
-    if step.refused != 0 {
-        let n = text::put_line_refused(out, step.at, r.line, step.refused);
-        return Run {
+    let mut text = Text { out, at: r.at };
+    match carrying::carry_out(r.state, &part[r.used..end], &mut text) {
+        Ok(state) => Run {
             state,
-            line: r.line,
-            refused: step.refused,
-            used: end,
-            at: n,
-        };
-    }
-    Run {
-        state,
-        line: r.line + 1,
-        refused: 0,
-        used: end + 1,
-        at: step.at,
+            line: r.line + 1,
+            refused: 0,
+            used: end + 1,
+            at: text.at,
+        },
+        Err(fault) => {
+            let refused = fault.number();
+            text::put_line_refused(&mut text, r.line, refused);
+            Run {
+                refused,
+                used: end,
+                at: text.at,
+                ..r
+            }
+        }
     }
 }
 
@@ -120,10 +115,7 @@ pub fn feed(run: Run, part: &[u8], out: &mut [u8], room: usize) -> Run
     ensures { Feeds part.now room run out.old result out.new }
 {
     let mut r = run;
-    loop {
-        if r.refused != 0 {
-            return r;
-        }
+    while r.refused == 0 {
         r = plain_lines(r, part);
         if lacks_room(r.at, out.len(), room) {
             return r;
@@ -134,33 +126,43 @@ pub fn feed(run: Run, part: &[u8], out: &mut [u8], room: usize) -> Run
         }
         r = next_line(r, part, end, out, room);
     }
+    r
+}
+
+// The state that a plan file starts with, or the refusal of the plan.
+pub fn opened(plan: &[u8]) -> Result<State, Refused>
+    ensures { Opened plan.now result }
+{
+    regulator::open(plan::read(plan)?)
 }
 
 // The header, or the refusal of a plan, and the run before the first line.
 pub fn start(plan: &[u8], out: &mut [u8]) -> Run
     ensures { Started plan.now out.old result out.new }
 {
-    let reading = plan::read(plan);
-    let p = reading.plan;
-    let o = regulator::open(p);
-    let state = o.state;
-    if reading.refused != 0 {
-        let n = text::put_plan_refused(out, 0, reading.refused, reading.place);
-        return Run {
-            state,
-            line: 1,
-            refused: reading.refused,
-            used: 0,
-            at: n,
-        };
-    }
-    let n = text::put_header(out, 0);
-    Run {
-        state,
-        line: 1,
-        refused: 0,
-        used: 0,
-        at: n,
+    let mut text = Text { out, at: 0 };
+    match opened(plan) {
+        Ok(state) => {
+            text::put_header(&mut text);
+            Run {
+                state,
+                line: 1,
+                refused: 0,
+                used: 0,
+                at: text.at,
+            }
+        }
+        Err(e) => {
+            let refused = e.fault.number();
+            text::put_plan_refused(&mut text, refused, e.place);
+            Run {
+                state: regulator::no_state(),
+                line: 1,
+                refused,
+                used: 0,
+                at: text.at,
+            }
+        }
     }
 }
 
@@ -174,11 +176,13 @@ pub fn finish(run: Run, part: &[u8], out: &mut [u8]) -> usize
     if r.refused != 0 {
         return r.at;
     }
+    let mut text = Text { out, at: r.at };
     if r.used < part.len() {
-        return text::put_line_refused(out, r.at, r.line, 41);
+        text::put_line_refused(&mut text, r.line, 41);
+        return text.at;
     }
-    let s = r.state;
-    text::put_open(out, r.at, s.decided)
+    text::put_open(&mut text, r.state.decided);
+    text.at
 }
 
 // All that the replay prints, from the bytes of the plan file and of the script, to a lent buffer as far as it reaches. Answers how many

@@ -15,7 +15,7 @@ mod line;
 mod output;
 mod text;
 
-pub use feeding::{Run, feed, finish, is_open_end, line_end, replay, start};
+pub use feeding::{Run, feed, finish, is_open_end, line_end, opened, replay, start};
 pub use line::{Line, Numbers, read_line, read_numbers};
-pub use output::{put_byte, put_bytes, put_field, put_number};
+pub use output::Text;
 pub use text::put_plan_refused;

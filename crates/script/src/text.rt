@@ -1,131 +1,94 @@
 // The lines that the replay prints.
-ghost use Rattle.std.specs.Prelude.{◌≡◌, cond, []};
+ghost use Rattle.std.specs.Prelude.{◌+◌, ◌<◌};
+ghost use Rattle.table.specs.Sums.{nth};
 ghost use Rattle.script.specs.Text.{header, domain_text, domains_text, steps_text, period_text, open_text, refused_text, plan_refused_text, line_refused_text};
-ghost use Rattle.script.specs.Output.{output, put};
+ghost use Rattle.script.specs.Output.{Puts};
 
-use super::output::{put_byte, put_bytes, put_field, put_number};
+use super::output::Text;
 use plan::Plan;
 use regulator::Counts;
 
-pub(crate) fn put_header(out: &mut [u8], at: usize) -> usize
-    ensures { output out.new result ≡ put (output out.old at) header }
+pub(crate) fn put_header(text: &mut Text)
+    ensures { Puts text.old text.new header }
 {
-    put_bytes(out, at, b"period idle best domains\n")
+    text.put_bytes(b"period idle best domains\n");
 }
 
-// The counts of one domain.
-fn put_domain(
-    out: &mut [u8],
-    at: usize,
-    number: u64,
-    reserved: u16,
-    reclaimed: u16,
-    yielded: u16,
-    writebacks: u16,
-) -> usize
-    ensures { output out.new result ≡ put (output out.old at) (domain_text number reserved reclaimed yielded writebacks) }
+// The counts of the domain with index j.
+fn put_domain(text: &mut Text, j: usize, c: Counts)
+    requires { j < 16 }
+    ensures { Puts text.old text.new (domain_text (j + 1) (nth c.reserved j) (nth c.reclaimed j) (nth c.yielded j) (nth c.writebacks j)) }
 {
-    let a = put_field(out, at, b' ', number);
-    let b = put_field(out, a, b':', reserved as u64);
-    let c = put_field(out, b, b'+', reclaimed as u64);
-    let d = put_field(out, c, b'-', yielded as u64);
-    put_field(out, d, b'w', writebacks as u64)
+    text.put_field(b' ', j as u64 + 1);
+    text.put_field(b':', u64::from(c.reserved[j]));
+    text.put_field(b'+', u64::from(c.reclaimed[j]));
+    text.put_field(b'-', u64::from(c.yielded[j]));
+    text.put_field(b'w', u64::from(c.writebacks[j]));
 }
 
-// The counts of one domain, if it is planned.
-fn put_if_planned(
-    out: &mut [u8],
-    at: usize,
-    planned: bool,
-    number: u64,
-    reserved: u16,
-    reclaimed: u16,
-    yielded: u16,
-    writebacks: u16,
-) -> usize
-    ensures { output out.new result ≡ put (output out.old at) (cond planned (domain_text number reserved reclaimed yielded writebacks) []) }
+// The counts of each planned domain.
+fn put_domains(text: &mut Text, p: Plan, c: Counts)
+    ensures { Puts text.old text.new (domains_text p c 16) }
 {
-    if planned {
-        put_domain(out, at, number, reserved, reclaimed, yielded, writebacks)
-    } else {
-        at
+    for j in 0..16 {
+        if p.planned[j] {
+            put_domain(text, j, c);
+        }
     }
-}
-
-fn put_domains(out: &mut [u8], at: usize, p: Plan, c: Counts) -> usize
-    ensures { output out.new result ≡ put (output out.old at) (domains_text p c 16) }
-{
-    let mut n = at;
-    let mut j = 0;
-    while j < 16 {
-        n = put_if_planned(
-            out,
-            n,
-            p.planned[j],
-            j as u64 + 1,
-            c.reserved[j],
-            c.reclaimed[j],
-            c.yielded[j],
-            c.writebacks[j],
-        );
-        j += 1;
-    }
-    n
 }
 
 // The sum of steps, which ends the line of a period.
-fn put_steps(out: &mut [u8], at: usize, steps: u32) -> usize
-    ensures { output out.new result ≡ put (output out.old at) (steps_text steps) }
+fn put_steps(text: &mut Text, steps: u32)
+    ensures { Puts text.old text.new (steps_text steps) }
 {
-    let a = put_bytes(out, at, b" s");
-    let b = put_number(out, a, steps as u64);
-    put_byte(out, b, b'\n')
+    text.put_bytes(b" s");
+    text.put_number(u64::from(steps));
+    text.put_byte(b'\n');
 }
 
-pub(crate) fn put_period(out: &mut [u8], at: usize, p: Plan, number: u32, c: Counts) -> usize
-    ensures { output out.new result ≡ put (output out.old at) (period_text p number c) }
+pub(crate) fn put_period(text: &mut Text, p: Plan, number: u32, c: Counts)
+    ensures { Puts text.old text.new (period_text p number c) }
 {
-    let a = put_number(out, at, number as u64);
-    let b = put_field(out, a, b' ', c.idle as u64);
-    let d = put_field(out, b, b' ', c.best as u64);
-    let e = put_domains(out, d, p, c);
-    put_steps(out, e, c.steps)
+    text.put_number(u64::from(number));
+    text.put_field(b' ', u64::from(c.idle));
+    text.put_field(b' ', u64::from(c.best));
+    put_domains(text, p, c);
+    put_steps(text, c.steps);
 }
 
-pub(crate) fn put_open(out: &mut [u8], at: usize, decided: u16) -> usize
-    ensures { output out.new result ≡ put (output out.old at) (open_text decided) }
+pub(crate) fn put_open(text: &mut Text, decided: u16)
+    ensures { Puts text.old text.new (open_text decided) }
 {
-    let a = put_bytes(out, at, b"open");
-    let b = put_field(out, a, b' ', decided as u64);
-    put_byte(out, b, b'\n')
+    text.put_bytes(b"open");
+    text.put_field(b' ', u64::from(decided));
+    text.put_byte(b'\n');
 }
 
 // A line of two numbers, each behind its words.
-fn put_refused(out: &mut [u8], at: usize, words: &[u8], n: u64, more: &[u8], m: u64) -> usize
-    ensures { output out.new result ≡ put (output out.old at) (refused_text words.now n more.now m) }
+fn put_refused(text: &mut Text, words: &[u8], n: u64, more: &[u8], m: u64)
+    ensures { Puts text.old text.new (refused_text words.now n more.now m) }
 {
-    let a = put_bytes(out, at, words);
-    let b = put_field(out, a, b' ', n);
-    let c = put_bytes(out, b, more);
-    let d = put_field(out, c, b' ', m);
-    put_byte(out, d, b'\n')
+    text.put_bytes(words);
+    text.put_field(b' ', n);
+    text.put_bytes(more);
+    text.put_field(b' ', m);
+    text.put_byte(b'\n');
 }
 
-pub fn put_plan_refused(out: &mut [u8], at: usize, number: u8, place: u16) -> usize
-    ensures { output out.new result ≡ put (output out.old at) (plan_refused_text number place) }
+pub fn put_plan_refused(text: &mut Text, number: u8, place: u16)
+    ensures { Puts text.old text.new (plan_refused_text number place) }
 {
     put_refused(
-        out,
-        at,
+        text,
         b"plan refused",
-        number as u64,
+        u64::from(number),
         b" at",
-        place as u64,
-    )
+        u64::from(place),
+    );
 }
 
-pub(crate) fn put_line_refused(out: &mut [u8], at: usize, line: u64, number: u8) -> usize
-    ensures { output out.new result ≡ put (output out.old at) (line_refused_text line number) }
+pub(crate) fn put_line_refused(text: &mut Text, line: u64, number: u8)
+    ensures { Puts text.old text.new (line_refused_text line number) }
 {
-    put_refused(out, at, b"line", line, b" refused", number as u64)
+    put_refused(text, b"line", line, b" refused", u64::from(number));
 }

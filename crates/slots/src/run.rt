@@ -2,18 +2,13 @@
 ghost use Rattle.std.specs.Prelude.{◌≡◌, true, ◌≤◌, ◌<◌, length};
 ghost use Rattle.regulator.specs.State.{adds_up};
 ghost use Rattle.regulator.proofs.Laws.Keeping.{Kept as Sound};
-ghost use Rattle.kept.specs.Tables.{tables};
 ghost use Rattle.kept.specs.Numbers.{Kept, state_of, rest_of};
 ghost use Rattle.slots.specs.Lines.{Carries};
-ghost use Rattle.slots.specs.Inner.{Allowed};
 
 use super::plain;
-use digits::Offers;
-use kept::Numbers;
+use super::plain::LINE;
+use kept::{Limits, Numbers, Tables};
 use regulator::State;
-
-// The bytes of a slot line.
-const LINE: usize = 20;
 
 // The state after the lines, and the place behind them.
 #[derive(Clone, Copy)]
@@ -30,62 +25,22 @@ struct Ran {
 }
 
 // The plain slot lines of a part from a place on. The state lends its plan; its other numbers are those given and the tables.
-fn run(
-    s: State,
-    given: Numbers,
-    from: usize,
-    allowed: u32,
-    part: &[u8],
-    claim: &mut [u16; 16],
-    reserved: &mut [u16; 16],
-    reclaimed: &mut [u16; 16],
-    writebacks: &mut [u16; 16],
-    writebackclaim: &mut [u16; 16],
-) -> Ran
+fn run(s: State, given: Numbers, from: usize, part: &[u8], tables: &mut Tables) -> Ran
     requires from_in_bounds { from ≤ length part.now }
-    requires allowed { Allowed s.plan allowed }
-    requires kept { Kept s.plan.reclaimcap s.plan.writebackcap given (tables claim.old reserved.old reclaimed.old writebacks.old writebackclaim.old) }
-    requires sound { Sound (state_of (rest_of s) given (tables claim.old reserved.old reclaimed.old writebacks.old writebackclaim.old)) × (given.decided < s.plan.period) }
-    ensures { Carries part.now (state_of (rest_of s) given (tables claim.old reserved.old reclaimed.old writebacks.old writebackclaim.old)) from (state_of (rest_of s) result.numbers (tables claim.new reserved.new reclaimed.new writebacks.new writebackclaim.new)) result.at }
+    requires kept { Kept s.plan.reclaimcap s.plan.writebackcap given tables.old }
+    requires sound { Sound (state_of (rest_of s) given tables.old) × (given.decided < s.plan.period) }
+    ensures { Carries part.now (state_of (rest_of s) given tables.old) from (state_of (rest_of s) result.numbers tables.new) result.at }
 {
-    let p = s.plan;
-    let reclaimcap = p.reclaimcap;
-    let writebackcap = p.writebackcap;
-    let period = p.period as u32;
-    let mut f = given;
+    let limits = Limits::of(s.plan);
+    let allowed = plain::allowed_of(s.plan);
+    let mut numbers = given;
     let mut at = from;
-    loop {
-        if part.len() - at < LINE {
-            return Ran { numbers: f, at };
-        }
-        if plain::is_head(part, at) {} else {
-            return Ran { numbers: f, at };
-        }
-        match digits::offers(part, at + 2) {
-            Offers::Masks(access, writeback) => {
-                if plain::is_plain(f, period, allowed, access, writeback) {} else {
-                    return Ran { numbers: f, at };
-                }
-                f = kept::slot(
-                    f,
-                    period,
-                    access,
-                    writeback,
-                    &reclaimcap,
-                    &writebackcap,
-                    claim,
-                    reserved,
-                    reclaimed,
-                    writebacks,
-                    writebackclaim,
-                );
-                at += LINE;
-            }
-            Offers::Other => {
-                return Ran { numbers: f, at };
-            }
-        }
+    // The place moves by lines, as long as a plain one stands there: no range counts it.
+    while let Some(offers) = plain::offers(part, at, numbers, limits.period, allowed) {
+        numbers = kept::slot(numbers, &limits, offers.access, offers.writeback, tables);
+        at += LINE;
     }
+    Ran { numbers, at }
 }
 
 // The plain slot lines of a part from a place on, from a state that adds up, as every state of a run does.
@@ -94,35 +49,9 @@ pub fn carry(s: State, from: usize, part: &[u8]) -> Carried
     requires s_value { adds_up s ≡ true }
     ensures { Carries part.now s from result.state result.at }
 {
-    let p = s.plan;
-    let allowed = plain::allowed_of(p);
-    let f = kept::loaded(s);
-    let mut claim = s.claim;
-    let mut reserved = s.reserved;
-    let mut reclaimed = s.reclaimed;
-    let mut writebacks = s.writebacks;
-    let mut writebackclaim = s.writebackclaim;
-    let ran = run(
-        s,
-        f,
-        from,
-        allowed,
-        part,
-        &mut claim,
-        &mut reserved,
-        &mut reclaimed,
-        &mut writebacks,
-        &mut writebackclaim,
-    );
-    let numbers = ran.numbers;
-    let state = kept::stored(
-        s,
-        numbers,
-        claim,
-        reserved,
-        reclaimed,
-        writebacks,
-        writebackclaim,
-    );
+    let numbers = kept::loaded(s);
+    let mut tables = Tables::of(s);
+    let ran = run(s, numbers, from, part, &mut tables);
+    let state = kept::stored(s, ran.numbers, tables);
     Carried { state, at: ran.at }
 }

@@ -1,5 +1,5 @@
 // The names of the kinds, and the lines after them.
-use super::seen::Seen;
+use super::run::Run;
 use super::{rows, script, seen};
 use std::io;
 use trial_kit::tally::Tally;
@@ -63,14 +63,11 @@ pub fn kind_line(rt: &impl Print, t: Tally, kind: u32) -> io::Result<()> {
 }
 
 // What was seen, the rows, the refusals, the total, and where something differed its first kind and case.
-pub fn last_lines(rt: &impl Print, t: Tally, s: Seen, rows: &[u64]) -> io::Result<()> {
-    seen::lines(rt, s)?;
-    rows::lines(rt, rows)?;
+pub fn last_lines(rt: &impl Print, r: &Run) -> io::Result<()> {
+    let t = r.tally;
+    seen::lines(rt, &r.seen)?;
+    rows::lines(rt, &r.desk.rows)?;
     report::told_lines(rt, t, &[2, 9, 10, 11, 21, 22, 23, 30, 31, 32, 33, 34])?;
-    if t.alldiffer != 0 {
-        print!(rt; "first difference: ")?;
-        say_name(rt, t.firstkind)?;
-        println!(rt; ", case {}", t.firstcase)?;
-    }
+    report::first_line(rt, t, |kind| say_name(rt, kind))?;
     report::total_line(rt, t)
 }

@@ -1,39 +1,26 @@
 // The rows of Point 8: each call of a list is entered into them, and what was counted of them, and of turns, is printed.
 use super::both::Told;
+use super::text::Line;
 use std::io;
 use trial_kit::lines;
-use trial_rows::turns;
-use trial_states::calls;
+use trial_rows::{Event, Rows};
+use trial_states::calls::Asks;
 
 // Enters a call on a state of these words; tells whether no row is above the number of domains planned.
-pub fn entered(rows: &mut [u64], words: &[u64], what: u8, t: Told) -> bool {
-    let verdicts = t.verdicts;
-    if what == calls::OPEN {
-        trial_rows::begin(rows);
-        return true;
+pub fn entered(rows: &mut Rows, words: &[u64], asks: Asks, t: Told) -> bool {
+    match asks {
+        Asks::Open => rows.begin(),
+        _ if t.number != 0 => rows.note(Event::Refused),
+        Asks::Slot => return rows.enter_slot(words, t.verdicts, t.complete),
+        Asks::Yield => rows.note(Event::Yielded),
+        Asks::HandIn => rows.note(Event::Waiting),
     }
-    if t.number != 0 {
-        trial_rows::note(rows, trial_rows::REFUSED);
-        return true;
-    }
-    if what == calls::SLOT {
-        return trial_rows::enter_slot(rows, words, verdicts, t.complete);
-    }
-    trial_rows::note(
-        rows,
-        if what == calls::YIELD {
-            trial_rows::YIELDED
-        } else {
-            trial_rows::WAITING
-        },
-    );
     true
 }
 
 // Whether the row of the number that a line names is as long as it states.
-pub fn is_row(rows: &[u64], text: &[u8], at: usize) -> bool {
-    let number = lines::small(text, at, 9, 2) as usize;
-    trial_rows::row(rows, number) == lines::number(text, at, 12, 2)
+pub fn is_row(rows: &Rows, l: Line) -> bool {
+    rows.row(l.index(9)) == l.number(12, 2)
 }
 
 fn say_name(rt: &impl Print, k: usize) -> io::Result<()> {
@@ -54,26 +41,26 @@ fn say_name(rt: &impl Print, k: usize) -> io::Result<()> {
     )
 }
 
-fn say_full(rt: &impl Print, rows: &[u64]) -> io::Result<()> {
+fn say_full(rt: &impl Print, rows: &Rows) -> io::Result<()> {
     print!(rt; "rows that came to be n, by n from 1 to 16:")?;
     for n in 1..=16 {
-        print!(rt; " {}", trial_rows::full(rows, n))?;
+        print!(rt; " {}", rows.full(n))?;
     }
     println!(rt)
 }
 
-fn say_turns(rt: &impl Print, rows: &[u64]) -> io::Result<()> {
+fn say_turns(rt: &impl Print, rows: &Rows) -> io::Result<()> {
     println!(rt;
         "turns and sizes of passing sets seen: {} of 306",
-        turns::sizes(rows)
+        rows.turns.sizes()
     )?;
-    println!(rt; "turns and steps seen: {} of 306", turns::steps(rows))
+    println!(rt; "turns and steps seen: {} of 306", rows.turns.steps())
 }
 
-pub fn lines(rt: &impl Print, rows: &[u64]) -> io::Result<()> {
-    for k in 0..trial_rows::LINES {
+pub fn lines(rt: &impl Print, rows: &Rows) -> io::Result<()> {
+    for (k, count) in rows.counts().iter().enumerate() {
         say_name(rt, k)?;
-        println!(rt; ": {}", trial_rows::count(rows, k))?;
+        println!(rt; ": {count}")?;
     }
     say_full(rt, rows)?;
     say_turns(rt, rows)

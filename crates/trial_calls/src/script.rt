@@ -33,90 +33,48 @@
 // Numbers left out at a line's end are 0, and domain 00 is all sixteen.
 ghost use Rattle.std.specs.Prelude.{◌≤◌};
 
-use super::both::Outcome;
+use super::both::{Outcome, Told};
 use super::run::{Case, Run};
-use super::{asked, both, rows, run, seen};
+use super::text::Line;
+use super::{asked, rows, seen};
 use model_calls::{Cause, cells};
-use plan::Plan;
 use std::io;
 use trial_kit::{lines, report, tally, values};
-use trial_states::calls::Call;
-use trial_states::{calls, forms};
+use trial_states::calls::{Asks, Call};
+use trial_states::forms;
 
 // The kind of all stated cases.
 pub const STATED: u32 = 100;
 
 // The run so far, the case at hand and where its name stands, and whether the last call told counts.
 #[derive(Clone, Copy)]
-pub struct Script {
-    pub run: Run,
-    pub of: Case,
-    pub named: usize,
-    pub complete: bool,
-}
-
-// Seventeen digits as bytes, and a byte behind them.
-fn digits_of(text: &[u8], at: usize, offset: usize, behind: u8) -> [u8; 18] {
-    let from = at.wrapping_add(offset);
-    let mut all = [behind; 18];
-    for k in 0..17 {
-        all[k] = lines::digit(text, from, k);
-    }
-    all
-}
-
-// The script with a difference noted where an outcome is not as stated.
-fn stated(s: Script, same: bool) -> Script {
-    let mut after = s;
-    let mut r = s.run;
-    let t = r.tally;
-    let n = r.seen;
-    let of = s.of;
-    let noted = tally::noted(t, STATED, of.case, same);
-    let more = seen::raised(n, seen::STATED, 1);
-    r.tally = noted;
-    r.seen = more;
-    after.run = r;
-    after
+struct Script {
+    run: Run,
+    of: Case,
+    named: usize,
+    complete: bool,
 }
 
 // What the call of a line is.
-fn kind_of(letter: u8) -> u8 {
+fn asks_of(letter: u8) -> Asks {
     match letter {
-        b's' => calls::SLOT,
-        b'y' => calls::YIELD,
-        b'g' => calls::HAND,
-        _ => calls::OPEN,
+        b's' => Asks::Slot,
+        b'y' => Asks::Yield,
+        b'g' => Asks::HandIn,
+        _ => Asks::Open,
     }
 }
 
 // The number whose verdict is explained beside a slot call is what two of its offers happen to make.
-fn call_of(text: &[u8], at: usize) -> Call {
+fn call_of(l: Line) -> Call {
     Call {
-        what: kind_of(lines::byte(text, at)),
-        offers: digits_of(text, at, 5, 0),
+        asks: asks_of(l.letter()),
+        offers: l.digits(5, 0),
         offered: 17,
         lent: 17,
         filled: 9,
-        domain: lines::number(text, at, 6, 2),
-        k: lines::number(text, at, 9, 4),
-    }
-}
-
-// The steps and verdicts of a slot line; the place of an opening and of a plan handed in.
-fn rest_stated(s: Script, text: &[u8], at: usize, o: Outcome) -> Script {
-    let t = o.told;
-    let verdicts = t.verdicts;
-    match lines::byte(text, at) {
-        b's' => {
-            let steps = stated(s, t.steps == lines::small(text, at, 44, 2));
-            stated(
-                steps,
-                both::same_bytes(verdicts, digits_of(text, at, 23, 9)),
-            )
-        }
-        b'y' => s,
-        _ => stated(s, t.place == lines::small(text, at, 8, 4)),
+        domain: l.number(6, 2),
+        k: l.number(9, 4),
     }
 }
 
@@ -129,120 +87,40 @@ fn refusal_at(letter: u8) -> usize {
     }
 }
 
-// The script after a call of a line on a state of these words, which are others now.
-fn called(
-    s: Script,
-    text: &[u8],
-    at: usize,
-    words: &[u64],
-    now: &[u64],
-    page: &mut [u64],
-    rows: &mut [u64],
-    counts: &[u64],
-    c: Call,
-    o: Outcome,
-) -> Script {
-    let mut after = s;
-    let r = s.run;
-    let of = s.of;
-    let t = o.told;
-    let next = run::called(r, words, now, page, rows, counts, of, c, o);
-    after.run = next;
-    after.complete = t.complete;
-    call_stated(after, text, at, o)
-}
-
-fn call_line(
-    s: Script,
-    text: &[u8],
-    at: usize,
-    now: &mut [u64],
-    counts: &mut [u64],
-    page: &mut [u64],
-    rows: &mut [u64],
-) -> Script {
-    let mut words = [0u64; 714];
-    let c = call_of(text, at);
-    forms::copy(&mut words, now);
-    let o = both::answered(now, counts, c);
-    called(s, text, at, &words, now, page, rows, counts, c, o)
-}
-
 // Whether a cause is the one that a line states.
-fn is_cause(m: Cause, text: &[u8], at: usize) -> bool {
+fn is_cause(m: Cause, l: Line) -> bool {
     let kind = if m.below { 4 } else { m.word };
-    let refusal = m.number == lines::small(text, at, 27, 2);
-    let verdict = m.verdict as u32 == lines::small(text, at, 30, 1);
-    let sort = kind as u32 == lines::small(text, at, 32, 1);
-    let first = m.first == lines::number(text, at, 34, 4);
-    let second = m.second == lines::number(text, at, 39, 4);
-    tally::both(
-        tally::both(tally::both(refusal, verdict), sort),
-        tally::both(first, second),
-    )
-}
-
-// A cause asked for on a state of these words.
-fn query_line(s: Script, text: &[u8], at: usize, now: &[u64]) -> Script {
-    let mut c = call_of(text, at);
-    let offers = digits_of(text, at, 6, 0);
-    c.what = calls::SLOT;
-    c.offers = offers;
-    c.domain = lines::number(text, at, 24, 2);
-    let a = asked::of_call(now, c);
-    let m = a.cause;
-    stated(s, tally::both(a.same, is_cause(m, text, at)))
-}
-
-// The refusal of a call, and the rest of its outcome.
-fn call_stated(s: Script, text: &[u8], at: usize, o: Outcome) -> Script {
-    let v = o.verdict;
-    let due = lines::small(text, at, refusal_at(lines::byte(text, at)), 2);
-    rest_stated(stated(s, v.number == due), text, at, o)
+    m.number == l.small(27, 2)
+        && u32::from(m.verdict) == l.small(30, 1)
+        && u32::from(kind) == l.small(32, 1)
+        && m.first == l.number(34, 4)
+        && m.second == l.number(39, 4)
 }
 
 // Whether the count in a column of the row that the line names is the number of so many digits at an offset.
-fn tells(
-    counts: &[u64],
-    text: &[u8],
-    at: usize,
-    column: usize,
-    offset: usize,
-    digits: usize,
-) -> bool {
-    let row = lines::small(text, at, 5, 2) as usize;
-    cells::get(counts, row, column) == lines::number(text, at, offset, digits)
+fn tells(counts: &[u64], l: Line, column: usize, offset: usize, digits: usize) -> bool {
+    cells::get(counts, l.index(5), column) == l.number(offset, digits)
 }
 
 // Whether all counts of that row are those of the line.
-fn row_told(c: &[u64], text: &[u8], at: usize) -> bool {
-    if lines::small(text, at, 5, 2) == 0 {
-        let slots = tally::both(tells(c, text, at, 3, 8, 4), tells(c, text, at, 4, 13, 4));
-        return tally::both(slots, tells(c, text, at, 7, 18, 5));
+fn row_told(counts: &[u64], l: Line) -> bool {
+    if l.index(5) == 0 {
+        return tells(counts, l, 3, 8, 4)
+            && tells(counts, l, 4, 13, 4)
+            && tells(counts, l, 7, 18, 5);
     }
-    let passes = tally::both(tells(c, text, at, 6, 8, 4), tells(c, text, at, 7, 13, 4));
-    let others = tally::both(tells(c, text, at, 8, 18, 4), tells(c, text, at, 9, 23, 4));
-    tally::both(passes, others)
-}
-
-// Whether the plan that begins at a word is the plan at hand.
-fn is_given(now: &[u64], from: usize) -> bool
-    requires { from ≤ 238 }
-{
-    let mut found = [0u64; 238];
-    let mut given = [0u64; 238];
-    forms::put_plan(&mut found, forms::FORCE, forms::plan_of(now, from));
-    forms::put_plan(&mut given, forms::FORCE, forms::plan_of(now, forms::GIVEN));
-    forms::same_words(&found, &given)
+    tells(counts, l, 6, 8, 4)
+        && tells(counts, l, 7, 13, 4)
+        && tells(counts, l, 8, 18, 4)
+        && tells(counts, l, 9, 23, 4)
 }
 
 // Whether the word in the row and column that stand at an offset is the number behind them.
-fn is_word(words: &[u64], text: &[u8], at: usize, offset: usize) -> bool
+fn is_word(words: &[u64], l: Line, offset: usize) -> bool
     requires { offset ≤ 6 }
 {
-    let row = lines::small(text, at, offset, 2) as usize;
-    let column = lines::small(text, at, offset + 3, 2) as usize;
-    forms::word(words, 14 * row + column) == lines::figure(text, at, offset + 6)
+    let k = 14 * l.index(offset) + l.index(offset + 3);
+    forms::word(words, k) == l.figure(offset + 6)
 }
 
 // An estimate that stands at an offset, as the model's kind and bits.
@@ -252,188 +130,201 @@ struct Estimate {
     bits: u64,
 }
 
-fn estimate_at(text: &[u8], at: usize, offset: usize) -> Estimate {
-    match lines::byte(text, at.wrapping_add(offset)) {
+fn estimate_at(l: Line, offset: usize) -> Estimate {
+    match l.byte(offset) {
         b'n' => Estimate { kind: 0, bits: 0 },
         b'N' => Estimate { kind: 2, bits: 0 },
         _ => Estimate {
             kind: 1,
-            bits: lines::bits(text, at, offset),
+            bits: l.bits(offset),
         },
     }
 }
 
 // Whether the estimate of the domain that stands at an offset is the one behind it.
-fn is_estimate(words: &[u64], text: &[u8], at: usize, offset: usize) -> bool
+fn is_estimate(words: &[u64], l: Line, offset: usize) -> bool
     requires { offset ≤ 7 }
 {
-    let row = lines::small(text, at, offset, 2) as usize;
-    let e = estimate_at(text, at, offset + 3);
-    tally::both(
-        forms::word(words, 14 * row + 12) == e.kind,
-        forms::word(words, 14 * row + 13) == e.bits,
-    )
-}
-
-// Whether the state, the ledger's page, or the counts of the last call, are as a line states.
-fn holds(
-    text: &[u8],
-    at: usize,
-    now: &[u64],
-    page: &[u64],
-    counts: &[u64],
-    complete: bool,
-) -> bool {
-    let flag = forms::word(now, forms::WAITS) == lines::number(text, at, 6, 1);
-    match lines::byte(text, at) {
-        b't' => tally::both(complete, row_told(counts, text, at)),
-        b'n' => !complete,
-        b'r' => is_given(now, forms::FORCE),
-        b'w' => tally::both(flag, is_given(now, forms::NEXT)),
-        b'e' => is_word(page, text, at, 6),
-        b'f' => is_estimate(now, text, at, 6),
-        b'j' => is_estimate(page, text, at, 7),
-        _ => is_word(now, text, at, 4),
-    }
+    let row = l.index(offset);
+    let e = estimate_at(l, offset + 3);
+    forms::word(words, 14 * row + 12) == e.kind && forms::word(words, 14 * row + 13) == e.bits
 }
 
 // A domain of the plan at hand, planned or not.
-fn put_domain(text: &[u8], at: usize, now: &mut [u64], number: usize, planned: u64)
+fn put_domain(l: Line, now: &mut [u64], number: usize, planned: u64)
     requires { number ≤ 65535 }
 {
     let row = forms::GIVEN + 14 * number;
     forms::put(now, row, planned);
-    forms::put(now, row + 1, lines::number(text, at, 10, 4));
-    forms::put(now, row + 2, lines::number(text, at, 15, 4));
-    forms::put(now, row + 3, lines::number(text, at, 20, 4));
-    forms::put(now, row + 4, lines::number(text, at, 25, 4));
+    forms::put(now, row + 1, l.number(10, 4));
+    forms::put(now, row + 2, l.number(15, 4));
+    forms::put(now, row + 3, l.number(20, 4));
+    forms::put(now, row + 4, l.number(25, 4));
     forms::put(now, row + 11, 0);
 }
 
 // The domain of a line that begins with `domain`, or all sixteen.
-fn put_domains(text: &[u8], at: usize, now: &mut [u64]) {
-    let named = lines::small(text, at, 7, 2) as usize;
+fn put_domains(l: Line, now: &mut [u64]) {
+    let named = l.index(7);
     if named > 0 {
-        put_domain(text, at, now, named, 1);
+        put_domain(l, now, named, 1);
         return;
     }
     for number in 1..=16 {
-        put_domain(text, at, now, number, 1);
+        put_domain(l, now, number, 1);
     }
 }
 
-fn put_mark(text: &[u8], at: usize, now: &mut [u64]) {
-    let row = forms::GIVEN + 14 * lines::small(text, at, 5, 2) as usize;
-    forms::put(now, row + 11, 1);
-}
-
-// The plan at hand put beside the flag, and the flag.
-fn lay(words: &mut [u64], p: Plan, flag: u64) {
-    forms::put_plan(words, forms::NEXT, p);
-    forms::put(words, forms::WAITS, flag);
-}
-
-fn alter(text: &[u8], at: usize, now: &mut [u64], page: &mut [u64]) {
-    let row = lines::small(text, at, 6, 2) as usize;
-    let k = 14 * row + lines::small(text, at, 9, 2) as usize;
-    let value = lines::figure(text, at, 12);
-    forms::put(page, k, value);
-    forms::put(now, k, value);
-    forms::fit(now);
-}
-
-// The bits of a NaN become what the state makes of them.
-fn know(text: &[u8], at: usize, now: &mut [u64], page: &mut [u64]) {
-    let k = 14 * lines::small(text, at, 6, 2) as usize;
-    let e = estimate_at(text, at, 9);
-    forms::put(now, k + 12, e.kind);
-    forms::put(now, k + 13, e.bits);
-    forms::fit(now);
-    forms::put(page, k + 12, forms::word(now, k + 12));
-    forms::put(page, k + 13, forms::word(now, k + 13));
-}
-
-// A line that changes the plan at hand, or the state and the ledger.
-fn put_line(text: &[u8], at: usize, now: &mut [u64], page: &mut [u64]) {
-    let p = forms::plan_of(now, forms::GIVEN);
-    let flag = lines::number(text, at, 4, 1);
-    let period = lines::small(text, at, 5, 4);
-    match lines::byte(text, at) {
+// A line that changes the plan at hand.
+fn put_given(l: Line, now: &mut [u64]) {
+    match l.letter() {
         b'p' => forms::put_plan(
             now,
             forms::GIVEN,
-            values::with_period(values::nothing(), period),
+            values::with_period(plan::no_domains(0), l.small(5, 4)),
         ),
-        b'd' => put_domains(text, at, now),
-        b'b' => put_domain(text, at, now, lines::small(text, at, 7, 2) as usize, 0),
-        b'm' => put_mark(text, at, now),
-        b'k' => know(text, at, now, page),
-        b'l' => {
-            lay(now, p, flag);
-            lay(page, p, flag);
-        }
-        _ => alter(text, at, now, page),
+        b'd' => put_domains(l, now),
+        b'b' => put_domain(l, now, l.index(7), 0),
+        _ => forms::put(now, forms::GIVEN + 14 * l.index(5) + 11, 1),
     }
 }
 
-// The counts of the case at hand are printed, and the next begins.
-fn case_line(rt: &impl Print, s: Script, text: &[u8], at: usize) -> io::Result<Script> {
-    let mut after = s;
-    let mut r = s.run;
-    let t = r.tally;
-    let of = s.of;
-    if of.case > 0 {
-        lines::say_line(rt, text, s.named)?;
-        report::counts_line(rt, t)?;
+impl Script {
+    // Counts an outcome, and notes a difference where it is not as stated.
+    fn state(&mut self, same: bool) {
+        let tally = tally::noted(self.run.tally, STATED, self.of.case, same);
+        self.run.tally = tally;
+        self.run.seen.raise(seen::STATED, 1);
     }
-    let fresh = tally::next_kind(t);
-    r.tally = fresh;
-    after.run = r;
-    let next = Case {
-        kind: STATED,
-        case: tally::more(of.case),
-        seed: 0,
-    };
-    after.of = next;
-    after.named = at.wrapping_add(5);
-    Ok(after)
-}
 
-fn line(
-    rt: &impl Print,
-    s: Script,
-    text: &[u8],
-    at: usize,
-    now: &mut [u64],
-    counts: &mut [u64],
-    page: &mut [u64],
-    rows: &mut [u64],
-) -> io::Result<Script> {
-    match lines::byte(text, at) {
-        b'c' => case_line(rt, s, text, at),
-        b'o' | b'g' | b's' | b'y' => Ok(call_line(s, text, at, now, counts, page, rows)),
-        b'p' | b'd' | b'b' | b'm' => {
-            put_line(text, at, now, page);
-            Ok(s)
+    // The steps and verdicts of a slot line; the place of an opening and of a plan handed in.
+    fn state_rest(&mut self, l: Line, t: Told) {
+        match l.letter() {
+            b's' => {
+                self.state(t.steps == l.small(44, 2));
+                self.state(t.verdicts == l.digits(23, 9));
+            }
+            b'y' => {}
+            _ => self.state(t.place == l.small(8, 4)),
         }
-        b'l' | b'a' | b'k' => {
-            put_line(text, at, now, page);
-            trial_rows::begin(rows);
-            Ok(s)
+    }
+
+    // The call of a line: its refusal, and the rest of its outcome.
+    fn call_line(&mut self, l: Line) {
+        let o = self.run.call(self.of, call_of(l));
+        self.complete = o.told.complete;
+        self.state(o.verdict.number == l.small(refusal_at(l.letter()), 2));
+        self.state_rest(l, o.told);
+    }
+
+    // A cause asked for on the state.
+    fn query_line(&mut self, l: Line) {
+        let of = Call {
+            asks: Asks::Slot,
+            offers: l.digits(6, 0),
+            domain: l.number(24, 2),
+            ..call_of(l)
+        };
+        let a = asked::answered(&self.run.desk.now, of);
+        self.state(a.same && is_cause(a.cause, l));
+    }
+
+    // Whether the state, the ledger's page, or the counts of the last call, are as a line states.
+    fn holds(&self, l: Line) -> bool {
+        let now = &self.run.desk.now;
+        let page = &self.run.desk.page;
+        match l.letter() {
+            b't' => self.complete && row_told(&self.run.desk.counts, l),
+            b'n' => !self.complete,
+            b'r' => forms::same_plans(now, forms::FORCE, forms::GIVEN),
+            b'w' => {
+                forms::word(now, forms::WAITS) == l.number(6, 1)
+                    && forms::same_plans(now, forms::NEXT, forms::GIVEN)
+            }
+            b'e' => is_word(page, l, 6),
+            b'f' => is_estimate(now, l, 6),
+            b'j' => is_estimate(page, l, 7),
+            _ => is_word(now, l, 4),
         }
-        b'u' => Ok(stated(s, rows::is_row(rows, text, at))),
-        b'q' => Ok(query_line(s, text, at, now)),
-        _ => Ok(stated(s, holds(text, at, now, page, counts, s.complete))),
+    }
+
+    // The plan at hand put beside the flag, and the flag, in the ledger too.
+    fn lay(&mut self, flag: u64) {
+        let p = forms::plan_of(&self.run.desk.now, forms::GIVEN);
+        forms::put_plan(&mut self.run.desk.now, forms::NEXT, p);
+        forms::put(&mut self.run.desk.now, forms::WAITS, flag);
+        forms::put_plan(&mut self.run.desk.page, forms::NEXT, p);
+        forms::put(&mut self.run.desk.page, forms::WAITS, flag);
+    }
+
+    fn alter(&mut self, k: usize, value: u64) {
+        forms::put(&mut self.run.desk.page, k, value);
+        forms::put(&mut self.run.desk.now, k, value);
+        forms::fit(&mut self.run.desk.now);
+    }
+
+    // The bits of a NaN become what the state makes of them.
+    fn know(&mut self, k: usize, e: Estimate)
+        requires { k ≤ 1048576 }
+    {
+        let now = &mut self.run.desk.now;
+        forms::put(now, k, e.kind);
+        forms::put(now, k + 1, e.bits);
+        forms::fit(now);
+        let kind = forms::word(now, k);
+        let bits = forms::word(now, k + 1);
+        forms::put(&mut self.run.desk.page, k, kind);
+        forms::put(&mut self.run.desk.page, k + 1, bits);
+    }
+
+    // A line that changes the state and the ledger, and ends all rows.
+    fn put_line(&mut self, l: Line) {
+        match l.letter() {
+            b'k' => self.know(14 * l.index(6) + 12, estimate_at(l, 9)),
+            b'l' => self.lay(l.number(4, 1)),
+            _ => self.alter(14 * l.index(6) + l.index(9), l.figure(12)),
+        }
+        self.run.desk.rows.begin();
+    }
+
+    // The counts of the case at hand are printed, and the next begins.
+    fn case_line(&mut self, rt: &impl Print, l: Line) -> io::Result<()> {
+        if self.of.case > 0 {
+            lines::say_line(rt, l.text, self.named)?;
+            report::counts_line(rt, self.run.tally)?;
+        }
+        let fresh = tally::next_kind(self.run.tally);
+        self.run.tally = fresh;
+        self.of.case = tally::more(self.of.case);
+        self.named = l.at.wrapping_add(5);
+        Ok(())
+    }
+
+    fn line(&mut self, rt: &impl Print, l: Line) -> io::Result<()> {
+        match l.letter() {
+            b'c' => self.case_line(rt, l)?,
+            b'o' | b'g' | b's' | b'y' => self.call_line(l),
+            b'p' | b'd' | b'b' | b'm' => put_given(l, &mut self.run.desk.now),
+            b'l' | b'a' | b'k' => self.put_line(l),
+            b'u' => {
+                let same = rows::is_row(&self.run.desk.rows, l);
+                self.state(same);
+            }
+            b'q' => self.query_line(l),
+            _ => {
+                let same = self.holds(l);
+                self.state(same);
+            }
+        }
+        Ok(())
     }
 }
 
 // All cases of the text. Its last line begins a case without a name, so that the one before is printed.
-pub fn cases(rt: &impl Print, before: Run, rows: &mut [u64], text: &[u8]) -> io::Result<Run> {
-    let mut now = [0u64; 714];
-    let mut counts = [0u64; 238];
-    let mut page = [0u64; 476];
-    let mut s = Script {
-        run: before,
+// A `while`: the place goes from line to line.
+pub fn try_cases(rt: &impl Print, run: Run, text: &[u8]) -> io::Result<Run> {
+    let mut script = Script {
+        run,
         of: Case {
             kind: STATED,
             case: 0,
@@ -444,9 +335,8 @@ pub fn cases(rt: &impl Print, before: Run, rows: &mut [u64], text: &[u8]) -> io:
     };
     let mut at: usize = 0;
     while at < text.len() {
-        let next = line(rt, s, text, at, &mut now, &mut counts, &mut page, rows)?;
-        s = next;
+        script.line(rt, Line { text, at })?;
         at = lines::after_line(text, at);
     }
-    Ok(s.run)
+    Ok(script.run)
 }

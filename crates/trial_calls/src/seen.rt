@@ -1,20 +1,18 @@
 // What the runs came to: verdicts, slots, steps, periods and plans handed in, so that a program that does nothing is noticed.
-ghost use Rattle.std.specs.Prelude.{◌≤◌};
-
-use super::both;
-use super::both::Told;
+use super::both::{Part, Told};
 use model_calls::{Entry, cells};
 use std::io;
 use trial_kit::lines::say_nth;
-use trial_kit::{report, tally};
-use trial_states::{calls, estimates};
+use trial_kit::report;
+use trial_states::calls::Asks;
+use trial_states::estimates;
 
 // How often verdicts 0 to 6 were told stands at 0 to 6, how often steps 0 to 17 at 80 to 97, and behind them, by their sorts,
 // the estimates of marked domains before and after closes, and the needs that they leave; then what was put to the second
-// engine, and the causes that were asked for.
+// engine, and the causes that were asked for. A place is a number and no name: the lines are printed in their order.
 #[derive(Clone, Copy)]
 pub struct Seen {
-    pub counts: [u32; 155],
+    pub counts: [u32; COUNTS],
 }
 
 pub const IDLE: usize = 7;
@@ -80,129 +78,103 @@ const CAUSES: usize = 132;
 
 const COUNTS: usize = 155;
 
-pub fn raised(seen: Seen, k: usize, by: u32) -> Seen {
-    let mut after = seen;
-    let at = k % 155;
-    let x = after.counts[at];
-    if x < 1000000000 {
-        after.counts[at] = x + by % 65536;
-    }
-    after
-}
-
-// Each line from one on whose mark is set.
-pub fn marked(seen: Seen, from: usize, marks: &[bool]) -> Seen {
-    let mut after = seen;
-    for k in 0..marks.len() {
-        if marks[k] {
-            let next = raised(after, from.wrapping_add(k), 1);
-            after = next;
+impl Seen {
+    // Nothing seen.
+    pub fn new() -> Seen {
+        Seen {
+            counts: [0; COUNTS],
         }
     }
-    after
-}
 
-fn with_verdicts(seen: Seen, verdicts: [u8; 18]) -> Seen {
-    let mut after = seen;
-    for n in 0..17 {
-        let next = raised(after, (verdicts[n] % 7) as usize, 1);
-        after = next;
+    pub fn raise(&mut self, k: usize, by: u32) {
+        let at = k % COUNTS;
+        let x = self.counts[at];
+        if x < 1000000000 {
+            self.counts[at] = x + by % 65536;
+        }
     }
-    after
-}
 
-// A period's sum of steps, where it is the largest so far.
-fn with_sum(seen: Seen, sum: u32) -> Seen {
-    let mut after = seen;
-    if after.counts[LARGEST] < sum {
-        after.counts[LARGEST] = sum;
+    // Each line from one on whose mark is set.
+    pub fn mark(&mut self, from: usize, marks: &[bool]) {
+        for (k, &is_set) in marks.iter().enumerate() {
+            self.raise(from.wrapping_add(k), u32::from(is_set));
+        }
     }
-    after
+
+    // The counts of a completed period; its sum of steps where it is the largest so far.
+    fn see_counts(&mut self, counts: &[u64]) {
+        self.raise(PERIODS, 1);
+        let sum = small(counts, 0, cells::STEPS);
+        self.counts[LARGEST] = self.counts[LARGEST].max(sum);
+        for n in 1..=16 {
+            self.raise(RECLAIMED, small(counts, n, cells::RECLAIMED));
+            self.raise(WRITEBACKS, small(counts, n, cells::WRITEBACKS));
+        }
+    }
+
+    // A slot that was decided: its verdicts, its steps, and whether it was idle.
+    fn see_slot(&mut self, t: Told, counts: &[u64]) {
+        let verdicts = &t.verdicts[..17];
+        for &verdict in verdicts {
+            self.raise(usize::from(verdict % 7), 1);
+        }
+        self.raise(STEPS + (t.steps % 18) as usize, 1);
+        self.raise(IDLE, u32::from(!verdicts.contains(&1)));
+        if t.complete {
+            self.see_counts(counts);
+        }
+    }
+
+    // The second engine's part in a call.
+    pub fn see_second(&mut self, part: Part) {
+        self.raise(SECOND, u32::from(part != Part::NotAsked));
+        self.raise(SECOND + 1, u32::from(part == Part::Refused));
+    }
+
+    // The cause asked for, of a sort.
+    pub fn see_asked(&mut self, sort: Option<usize>) {
+        if let Some(sort) = sort {
+            self.raise(CAUSES + sort % 23, 1);
+        }
+    }
+
+    // A marked domain at a close, from the words before it and after: its estimates, and its need where it has one.
+    fn see_marked(&mut self, before: &[u64], after: &[u64], row: usize) {
+        let sort = estimates::sort(after, row);
+        self.raise(BEFORE + estimates::sort(before, row), 1);
+        self.raise(AFTER + sort % 11, 1);
+        if sort != 0 {
+            self.raise(NEEDS + estimates::need(after, row), 1);
+        }
+    }
+
+    // The close of a period.
+    pub fn see_close(&mut self, before: &[u64], after: &[u64]) {
+        for row in 1..=16 {
+            if estimates::is_marked(before, row) {
+                self.see_marked(before, after, row);
+            }
+        }
+    }
+
+    // A call of a run and its entry in the ledger, under a plan that was handed in or not.
+    pub fn see_call(&mut self, asks: Asks, t: Told, e: Entry, counts: &[u64], renewed: bool) {
+        if renewed {
+            self.raise(RENEWED, e.asked);
+        }
+        self.raise(ASKED, e.asked);
+        self.raise(TWOFOLD, e.twofold);
+        self.raise(FORESEEN, e.foreseen);
+        self.raise(FAULTS, e.faults);
+        if asks == Asks::Slot && t.number == 0 {
+            self.see_slot(t, counts);
+        }
+    }
 }
 
 // A count, of at most 32 bits.
 fn small(counts: &[u64], row: usize, column: usize) -> u32 {
     cells::get(counts, row, column) as u32
-}
-
-// The counts of a completed period.
-fn with_counts(seen: Seen, counts: &[u64]) -> Seen {
-    let steps = small(counts, 0, cells::STEPS);
-    let mut after = with_sum(raised(seen, PERIODS, 1), steps);
-    for n in 1..=16 {
-        let one = raised(after, RECLAIMED, small(counts, n, cells::RECLAIMED));
-        let two = raised(one, WRITEBACKS, small(counts, n, cells::WRITEBACKS));
-        after = two;
-    }
-    after
-}
-
-// A slot that was decided: its verdicts, its steps, and whether it was idle.
-fn with_slot(seen: Seen, t: Told, counts: &[u64]) -> Seen {
-    let verdicts = t.verdicts;
-    let told = with_verdicts(seen, verdicts);
-    let granted = told.counts[1] != seen.counts[1];
-    let stepped = raised(told, STEPS + (t.steps % 18) as usize, 1);
-    let after = raised(stepped, IDLE, if granted { 0 } else { 1 });
-    if t.complete {
-        with_counts(after, counts)
-    } else {
-        after
-    }
-}
-
-// The second engine's part in a call.
-pub fn with_second(seen: Seen, part: u8) -> Seen {
-    if part == both::NOTASKED {
-        return seen;
-    }
-    let asked = raised(seen, SECOND, 1);
-    raised(asked, SECOND + 1, if part == both::REFUSED { 1 } else { 0 })
-}
-
-// The cause asked for, of a sort; 0 is none.
-pub fn with_asked(seen: Seen, sort: usize) -> Seen {
-    raised(seen, CAUSES + sort % 23, if sort == 0 { 0 } else { 1 })
-}
-
-// A marked domain at a close, from the words before it and after: its estimates, and its need where it has one.
-fn with_marked(seen: Seen, before: &[u64], after: &[u64], row: usize) -> Seen {
-    if !estimates::is_marked(before, row) {
-        return seen;
-    }
-    let one = raised(seen, BEFORE + estimates::sort(before, row), 1);
-    let two = raised(one, AFTER + estimates::sort(after, row) % 11, 1);
-    if estimates::sort(after, row) == 0 {
-        two
-    } else {
-        raised(two, NEEDS + estimates::need(after, row), 1)
-    }
-}
-
-// The close of a period, if it is one.
-pub fn with_close(seen: Seen, before: &[u64], after: &[u64], complete: bool) -> Seen {
-    if !complete {
-        return seen;
-    }
-    let mut all = seen;
-    for row in 1..=16 {
-        let next = with_marked(all, before, after, row);
-        all = next;
-    }
-    all
-}
-
-// A call of a run and its entry in the ledger, under a plan that was handed in or not.
-pub fn with_call(seen: Seen, what: u8, t: Told, e: Entry, counts: &[u64], renewed: bool) -> Seen {
-    let kept = raised(seen, RENEWED, if renewed { e.asked } else { 0 });
-    let asked = raised(raised(kept, ASKED, e.asked), TWOFOLD, e.twofold);
-    let foreseen = raised(asked, FORESEEN, e.foreseen);
-    let after = raised(foreseen, FAULTS, e.faults);
-    if tally::both(what == calls::SLOT, t.number == 0) {
-        with_slot(after, t, counts)
-    } else {
-        after
-    }
 }
 
 // The lines before those of plans handed in.
@@ -331,57 +303,47 @@ fn say_name(rt: &impl Print, k: usize) -> io::Result<()> {
     }
 }
 
-// A name, and the counts from one to before another.
-fn say_row(rt: &impl Print, seen: Seen, name: &str, from: usize, to: usize) -> io::Result<()>
-    requires { to ≤ 155 }
-{
+// A name, and counts.
+fn say_row(rt: &impl Print, name: &str, counts: &[u32]) -> io::Result<()> {
     print!(rt; "{name}")?;
-    for k in from..to {
-        print!(rt; " {}", seen.counts[k])?;
+    for count in counts {
+        print!(rt; " {count}")?;
     }
     println!(rt)
 }
 
 // The counts that stand in rows: steps, estimates and needs, what the second engine was asked, and causes.
-fn say_rows(rt: &impl Print, seen: Seen) -> io::Result<()> {
-    say_row(rt, seen, "slots by their steps, 0 to 17:", STEPS, BEFORE)?;
+fn say_rows(rt: &impl Print, counts: &[u32; COUNTS]) -> io::Result<()> {
+    say_row(rt, "slots by their steps, 0 to 17:", &counts[STEPS..BEFORE])?;
     say_row(
         rt,
-        seen,
         "estimates of marked domains before a close: none, NaN, 0, subnormal, negative, 4,096, whole, next above a whole \
         number, next below, above Q, others, -0, infinite, -infinite:",
-        BEFORE,
-        AFTER,
+        &counts[BEFORE..AFTER],
     )?;
     say_row(
         rt,
-        seen,
         "estimates after it, of the same sorts without the last three:",
-        AFTER,
-        NEEDS,
+        &counts[AFTER..NEEDS],
     )?;
     say_row(
         rt,
-        seen,
         "needs by estimate: 0 of Q 0, 0 and 1 of Q 1, and of a larger Q none, some, all but one, all:",
-        NEEDS,
-        SECOND,
+        &counts[NEEDS..SECOND],
     )?;
     say_row(
         rt,
-        seen,
         "slot calls put to the second engine, and of them refused by it:",
-        SECOND,
-        CAUSES,
+        &counts[SECOND..CAUSES],
     )?;
     report::say_causes(rt)?;
-    say_row(rt, seen, "", CAUSES + 1, COUNTS)
+    say_row(rt, "", &counts[CAUSES + 1..])
 }
 
-pub fn lines(rt: &impl Print, seen: Seen) -> io::Result<()> {
+pub fn lines(rt: &impl Print, seen: &Seen) -> io::Result<()> {
     for k in 0..STEPS {
         say_name(rt, k)?;
         println!(rt; ": {}", seen.counts[k])?;
     }
-    say_rows(rt, seen)
+    say_rows(rt, &seen.counts)
 }

@@ -3,10 +3,9 @@
 #![tactic(auto)]
 
 use std::io;
-use trial_files::{calls, files};
-use trial_kit::bytes::least;
+use trial_files::{Case, calls, files};
 use trial_kit::tally::Tally;
-use trial_kit::{draw, read_full, tally};
+use trial_kit::{read_full, tally};
 
 mod compare;
 mod report;
@@ -46,53 +45,35 @@ fn cases(kind: u32) -> u32 {
     }
 }
 
-// Edit k of a file.
-fn edit_one(
-    t: Tally,
-    kind: u32,
-    case: u32,
-    k: u32,
-    seed: u32,
-    file: &mut [u8],
-    seen: &mut [u32],
-) -> Tally {
-    let drawn = draw::draw(seed, k.wrapping_add(1000));
-    let o = compare::tried(file, calls::drawn(file, kind, case, k, drawn), seen);
-    let v = o.verdict;
-    tally::counted(t, kind, case, v)
+// Edit k of a case.
+fn edit_one(t: Tally, of: Case, k: u32, file: &mut [u8], seen: &mut [u32]) -> Tally {
+    let o = compare::tried(file, calls::drawn(file, of, k), seen);
+    tally::counted(t, of.kind, of.case, o.verdict)
 }
 
 // The edits of one file, one after the other.
-fn edit_all(
-    before: Tally,
-    kind: u32,
-    case: u32,
-    seed: u32,
-    file: &mut [u8],
-    seen: &mut [u32],
-) -> Tally {
-    let most = calls::edits(kind);
+fn edit_all(before: Tally, of: Case, file: &mut [u8], seen: &mut [u32]) -> Tally {
+    let most = calls::edits(of.kind);
     let mut t = before;
     for k in 0..most {
-        let next = edit_one(t, kind, case, k, seed, file, seen);
+        let next = edit_one(t, of, k, file, seen);
         t = next;
     }
     t
 }
 
-fn try_file(t: Tally, kind: u32, case: u32, seen: &mut [u32]) -> Tally {
-    let seed = draw::draw(kind, case);
+fn try_file(t: Tally, of: Case, seen: &mut [u32]) -> Tally {
     let mut file = [0u8; 1040];
-    let size = files::put(&mut file, kind, case, seed);
-    let end = least(size as usize, 1040);
-    edit_all(t, kind, case, seed, &mut file[0..end], seen)
+    let size = files::put(&mut file, of);
+    let end = (size as usize).min(1040);
+    edit_all(t, of, &mut file[0..end], seen)
 }
 
 fn try_kind(rt: &impl Print, before: Tally, kind: u32, seen: &mut [u32]) -> io::Result<Tally> {
     let mut t = tally::next_kind(before);
     let most = cases(kind);
     for case in 0..most {
-        let next = try_file(t, kind, case, seen);
+        let next = try_file(t, Case::of(kind, case), seen);
         t = next;
     }
     report::kind_line(rt, t, kind)?;

@@ -1,7 +1,7 @@
-// The lines of the kinds, and the last ones.
+// The lines of the kinds, the last ones, and rows of counts.
 use std::io;
 use trial_kit::tally::Tally;
-use trial_kit::{lines, report};
+use trial_kit::{counts, lines, report};
 
 fn say_kind(rt: &impl Print, kind: u32) -> io::Result<()> {
     lines::say_nth(
@@ -47,10 +47,23 @@ pub fn kind_line(rt: &impl Print, t: Tally, kind: u32) -> io::Result<()> {
 
 // The total, and where something differed its first kind and case.
 pub fn last_lines(rt: &impl Print, t: Tally) -> io::Result<()> {
-    if t.alldiffer != 0 {
-        print!(rt; "first difference: ")?;
-        say_kind(rt, t.firstkind)?;
-        println!(rt; ", case {}", t.firstcase)?;
-    }
+    report::first_line(rt, t, |kind| say_kind(rt, kind))?;
     report::total_line(rt, t)
+}
+
+// Rows of counts from one on: of each its name, which is a line of the text, and as many counts as the row is wide.
+pub fn rows(
+    rt: &impl Print,
+    seen: &[u32],
+    first: usize,
+    names: &[u8],
+    widths: &[usize],
+) -> io::Result<()> {
+    let mut from = first;
+    for (row, &width) in widths.iter().enumerate() {
+        lines::say_nth(rt, names, row)?;
+        counts::say_row(rt, seen, from, width)?;
+        from = from.wrapping_add(width);
+    }
+    Ok(())
 }

@@ -1,54 +1,38 @@
 // What has to hold of a rescued file by the document's words, however it was made; and rescues counted.
-ghost use Rattle.std.specs.Prelude.{◌≤◌};
+ghost use Rattle.std.specs.Prelude.{◌<◌, ◌≤◌, IfSome};
 
-use super::compare::{all3, framed, same_bytes};
+use super::compare::{end_of, framed};
+use super::report;
 use model_edits::chain;
-use model_plans::words;
 use std::io;
-use trial_kit::bytes::least;
-use trial_kit::lines::say_nth;
-use trial_kit::tally::both;
-use trial_kit::{counts, values};
+use trial_kit::counts;
 
 // Whether both readers accept a file, with its period as it was and so many records on the chain.
 fn accepted(before: &[u8], after: &[u8], kept: u32) -> bool {
     let m = model_plans::read(after);
-    let l = plan::read(after);
-    let p = l.plan;
     let period = model_plans::record::number(before, 0, 0);
-    all3(
-        both(l.refused == 0, m.number == 0),
-        both(values::wide(p.period) == period, m.period == period),
-        chain::records(after) == kept,
-    )
+    let by_model = m.number == 0 && m.period == period && chain::records(after) == kept;
+    match plan::read(after) {
+        Ok(p) => by_model && u32::from(p.period) == period,
+        Err(_) => false,
+    }
 }
 
 // Whether the library's rescue of a file keeps every byte, and tells that it keeps so many records.
 fn rescued_already(file: &[u8], kept: u32) -> bool {
-    let end = 32 + least(file.len(), 1040);
-    let mut a = framed(file);
-    let b = framed(file);
-    let r = edit::rescue(&mut a[32..end]);
-    all3(
-        both(r.refused == 0, r.place == 0),
-        r.kept as u64 == words::wider(kept),
-        same_bytes(&a, &b),
-    )
+    let mut all = framed(file);
+    let told = edit::rescue(&mut all[32..end_of(file)]);
+    told == Ok(kept as usize) && all == framed(file)
 }
 
 // Whether a file that was accepted has all its bytes.
 fn left_alone(before: &[u8], after: &[u8]) -> bool {
-    let a = model_plans::read(before);
-    if a.number == 0 { before == after } else { true }
+    model_plans::read(before).number != 0 || before == after
 }
 
 // Whether a file that was rescued holds what it has to.
 pub fn holds(before: &[u8], after: &[u8], kept: u32) -> bool {
-    all3(
-        accepted(before, after, kept),
-        rescued_already(after, kept),
-        left_alone(before, after),
-    )
+    accepted(before, after, kept) && rescued_already(after, kept) && left_alone(before, after)
 }
 
 // The counts of rescues are lent behind those of `seen`, in the order of the names below: four of refusals, ten of what reading
@@ -75,28 +59,34 @@ fn reading(number: u32) -> usize
     }
 }
 
-// The row of a fault of the chain, 4 to 9 and 11; 7 for none.
-fn fault_row(number: u32) -> usize
-    ensures { result ≤ 7 }
+// The row of a fault of the chain, 4 to 9 and 11.
+fn fault_row(number: u32) -> Option<usize>
+    ensures { IfSome result (λ row. row < 7) }
 {
     match number {
-        4..=9 => (number - 4) as usize,
-        11 => 6,
-        _ => 7,
+        4..=9 => Some((number - 4) as usize),
+        11 => Some(6),
+        _ => None,
     }
 }
 
-// What was done: a link cut, records fallen, both, leftovers zeroed alone, or nothing.
-fn done(cut: bool, fell: u32, same: bool) -> usize
-    ensures { result ≤ 4 }
-{
-    if cut {
-        return if fell > 0 { 2 } else { 0 };
+// What was done, in the order of the printed row; leftovers zeroed alone are `Leftovers`.
+#[derive(Clone, Copy)]
+enum Done {
+    Cut,
+    Fell,
+    Both,
+    Leftovers,
+    Nothing,
+}
+
+fn came_to(cut: bool, fell: bool, same: bool) -> Done {
+    match (cut, fell) {
+        (true, false) => Done::Cut,
+        (false, true) => Done::Fell,
+        (true, true) => Done::Both,
+        (false, false) => if same { Done::Nothing } else { Done::Leftovers },
     }
-    if fell > 0 {
-        return 1;
-    }
-    if same { 4 } else { 3 }
 }
 
 fn small(x: u32) -> usize
@@ -111,13 +101,15 @@ fn count_rescued(before: &[u8], after: &[u8], kept: u32, seen: &mut [u32]) {
     let earlier = model_plans::read_with_leftovers(before);
     let taken = chain::records(before);
     let fell = taken.wrapping_sub(kept);
-    let row = fault_row(earlier.number);
+    let cut = fault_row(earlier.number);
     counts::raise(seen, READ + reading(a.number), 1);
-    counts::raise_if(seen, CUT + 17 * row + small(taken), row < 7);
+    if let Some(row) = cut {
+        counts::raise(seen, CUT + 17 * row + small(taken), 1);
+    }
     counts::raise(seen, FELL + small(fell), 1);
     counts::raise(seen, KEPT + small(kept), 1);
-    let way = done(row < 7, fell, before == after);
-    counts::raise(seen, DONE + way, 1);
+    let way = came_to(cut.is_some(), fell > 0, before == after);
+    counts::raise(seen, DONE + way as usize, 1);
 }
 
 // Counts a rescue, given the file before and after, and what was told.
@@ -128,9 +120,11 @@ pub fn count(before: &[u8], after: &[u8], number: u32, kept: u32, seen: &mut [u3
     }
 }
 
-fn say_name(rt: &impl Print, k: usize) -> io::Result<()> {
-    say_nth(
+pub fn lines(rt: &impl Print, seen: &[u32]) -> io::Result<()> {
+    report::rows(
         rt,
+        seen,
+        FIRST,
         b"rescued, and refused with 1, 2, 3\n\
         rescued where reading told 0, 4 to 12\n\
         a link cut for 4 after 0 to 16 records\n\
@@ -143,26 +137,6 @@ fn say_name(rt: &impl Print, k: usize) -> io::Result<()> {
         0 to 16 records fell\n\
         0 to 16 records kept\n\
         a link cut, records fallen, both, leftovers zeroed alone, nothing done\n",
-        k,
+        &[4, 10, 17, 17, 17, 17, 17, 17, 17, 17, 17, 5],
     )
-}
-
-// How many counts stand under a name.
-fn width(name: usize) -> usize {
-    match name {
-        0 => 4,
-        1 => 10,
-        11 => 5,
-        _ => 17,
-    }
-}
-
-pub fn lines(rt: &impl Print, seen: &[u32]) -> io::Result<()> {
-    let mut from = FIRST;
-    for name in 0..12 {
-        say_name(rt, name)?;
-        counts::say_row(rt, seen, from, width(name))?;
-        from = from.wrapping_add(width(name));
-    }
-    Ok(())
 }

@@ -2,19 +2,12 @@
 // that are to stay as they are, and bytes of any sort.
 ghost use Rattle.std.specs.Prelude.{◌≤◌};
 
+use super::Case;
 use plan::Plan;
 use trial_kit::chain::Chain;
 use trial_kit::files::bytes_of;
 use trial_kit::spoiled::Spot;
-use trial_kit::tally::both;
 use trial_kit::{bytes, chain, draw, files, rest, spoiled, values};
-
-// How much one number is above another, or 0.
-fn less(a: u32, b: u32) -> u32
-    ensures { result ≤ a }
-{
-    if b <= a { a - b } else { 0 }
-}
 
 // From 1 to 16 domains, by a turn.
 fn domains_of(turn: u32) -> u32
@@ -24,6 +17,7 @@ fn domains_of(turn: u32) -> u32
 }
 
 // How many records a file has for a chain of so many domains: two more at least, mostly few, up to 64.
+// `domains ≤ 16` is required here and below: a type for it would be made and taken apart at each use.
 fn records_for(domains: u32, seed: u32) -> u32
     requires { domains ≤ 16 }
 {
@@ -32,7 +26,8 @@ fn records_for(domains: u32, seed: u32) -> u32
     } else {
         domains + 5
     };
-    std::num::wrapping_add_u32(domains + 2, draw::upto(seed, 21, less(most, domains)))
+    let more = draw::upto(seed, 21, most.saturating_sub(domains));
+    (domains + 2).wrapping_add(more)
 }
 
 // The plan with all of Q reserved for writebacks in its place, and W of P.
@@ -49,10 +44,28 @@ fn written(p: Plan) -> Plan {
 // Sixteen domains that reserve P, mostly more than P, 65,536, or mostly more than P for writebacks alone.
 fn plan_of(way: u32, seed: u32) -> Plan {
     match way {
-        0 => values::drawn(seed, values::WHOLE),
-        1 => values::drawn(seed, values::OVER),
-        2 => values::drawn(seed, values::FULL),
-        _ => written(values::drawn(seed, values::OVER)),
+        0 => values::drawn(seed, values::Kind::Whole),
+        1 => values::drawn(seed, values::Kind::Over),
+        2 => values::drawn(seed, values::Kind::Full),
+        _ => written(values::drawn(seed, values::Kind::Over)),
+    }
+}
+
+// Of six numbers three are of zeros.
+fn any_fill(drawn: u32) -> bytes::Kind {
+    match drawn {
+        0 => bytes::Kind::Any,
+        1 => bytes::Kind::Sparse,
+        2 => bytes::Kind::Small,
+        _ => bytes::Kind::Zeros,
+    }
+}
+
+fn order_of(turn: u32) -> chain::Order {
+    match turn % 3 {
+        0 => chain::Order::Rising,
+        1 => chain::Order::Falling,
+        _ => chain::Order::Drawn,
     }
 }
 
@@ -62,18 +75,19 @@ fn laid(file: &mut [u8], p: Plan, domains: u32, turn: u32, seed: u32) -> Chain
     requires { domains ≤ 16 }
 {
     let records = records_for(domains, seed);
-    bytes::fill(file, bytes_of(records), seed, draw::upto(seed, 22, 5));
-    let mut c = chain::lay_in(file, p, records, turn % 3, seed);
+    bytes::fill(
+        file,
+        bytes_of(records),
+        seed,
+        any_fill(draw::upto(seed, 22, 5)),
+    );
+    let mut c = chain::lay_in(file, p, records, order_of(turn), seed);
     chain::end_chain(file, c, domains);
-    clear_unless(file, turn / 3 % 2 == 1);
-    c.domains = domains;
-    c
-}
-
-fn clear_unless(file: &mut [u8], leftovers: bool) {
-    if !leftovers {
+    if turn / 3 % 2 == 0 {
         rest::clear(file);
     }
+    c.domains = domains;
+    c
 }
 
 // A chain of so many domains, laid in any of these ways.
@@ -97,7 +111,7 @@ fn place_of(fault: u32, domains: u32, turn: u32) -> u32
 {
     match fault {
         4 | 6 => turn % (domains + 1),
-        5 | 7 => std::num::wrapping_add_u32(turn % domains, 1),
+        5 | 7 => (turn % domains).wrapping_add(1),
         _ => turn % domains,
     }
 }
@@ -120,16 +134,16 @@ fn link_to(c: Chain, taken: u32, way: u32, seed: u32) -> u32 {
         0 => chain::before(order, taken),
         1 => chain::record_at(order, 0),
         2 => chain::record_at(order, c.domains / 2),
-        3 => chain::record_at(order, less(c.domains, 1)),
+        3 => chain::record_at(order, c.domains.saturating_sub(1)),
         4 => chain::record_at(order, draw::upto(seed, 25, c.domains)),
         5 => 0,
         6 => 64,
         7 => 65535,
         8 => records,
-        9 => less(records, 1),
+        9 => records.saturating_sub(1),
         10 => 256,
         11 => 256 + chain::record_at(order, taken),
-        12 => std::num::wrapping_add_u32(records, 1),
+        12 => records.wrapping_add(1),
         _ => draw::upto(seed, 26, 63),
     }
 }
@@ -150,19 +164,17 @@ fn misled(file: &mut [u8], case: u32, seed: u32) -> Chain {
 fn zeros_of(way: u32, domains: u32) -> u32 {
     match way % 4 {
         0 => 0,
-        1 => if domains > 1 { 1 } else { 0 },
+        1 => u32::from(domains > 1),
         2 => domains / 2,
-        _ => less(domains, 1),
+        _ => domains.saturating_sub(1),
     }
 }
 
 // Puts both reservations of the last domains of a chain to 0.
 fn unreserve(file: &mut [u8], c: Chain, last: u32) {
     let order = c.order;
-    let mut k: u32 = 0;
-    while k < last {
-        k += 1;
-        let record = chain::record_at(order, less(c.domains, k));
+    for k in 1..=last {
+        let record = chain::record_at(order, c.domains.saturating_sub(k));
         bytes::put_pair(file, record, 4, 0);
         bytes::put_pair(file, record, 10, 0);
     }
@@ -171,9 +183,9 @@ fn unreserve(file: &mut [u8], c: Chain, last: u32) {
 // Raises Q of a record by so much, or its writeback reservation, and W with it.
 fn reserve(file: &mut [u8], record: u32, more: u32, writes: bool) {
     let offset = if writes { 10 } else { 4 };
-    let value = std::num::wrapping_add_u32(bytes::pair(file, record, offset), more);
+    let value = bytes::pair(file, record, offset).wrapping_add(more);
     bytes::put_pair(file, record, offset, value);
-    if both(writes, bytes::pair(file, record, 8) < value) {
+    if writes && bytes::pair(file, record, 8) < value {
         bytes::put_pair(file, record, 8, value);
     }
 }
@@ -182,7 +194,8 @@ fn reserve(file: &mut [u8], record: u32, more: u32, writes: bool) {
 fn left_over(file: &[u8], c: Chain) -> u32 {
     let s = model_plans::sums(file);
     let told = s.told;
-    less(c.period, told[(less(c.domains, 1) % 16) as usize])
+    let last = (c.domains.saturating_sub(1) % 16) as usize;
+    c.period.saturating_sub(told[last])
 }
 
 // A chain that reserves P, or one more, with zero reservations last; one of the records before them makes it so much.
@@ -192,14 +205,10 @@ fn summed(file: &mut [u8], case: u32, seed: u32) -> Chain {
     let c = any_laid(file, plan_of(0, seed), domains, seed);
     unreserve(file, c, zeros);
     let order = c.order;
-    let one = chain::record_at(order, draw::upto(seed, 27, less(less(domains, zeros), 1)));
-    let left = left_over(file, c);
-    reserve(
-        file,
-        one,
-        std::num::wrapping_add_u32(left, case / 64 % 2),
-        case / 128 % 2 == 1,
-    );
+    let most = domains.saturating_sub(zeros).saturating_sub(1);
+    let one = chain::record_at(order, draw::upto(seed, 27, most));
+    let more = left_over(file, c).wrapping_add(case / 64 % 2);
+    reserve(file, one, more, case / 128 % 2 == 1);
     c
 }
 
@@ -224,7 +233,7 @@ fn both_wrong(file: &mut [u8], case: u32, seed: u32) -> Chain {
     }
     let c = summed(file, 64 + case / 2 % 64, seed);
     let fault = fault_of(case / 128);
-    let domains = domains_of(less(c.domains, 1));
+    let domains = domains_of(c.domains.saturating_sub(1));
     let taken = place_of(fault, domains, draw::upto(seed, 32, 16));
     spoiled::put_spot(file, c, Spot { fault, taken }, seed);
     c
@@ -244,9 +253,9 @@ fn accepted(file: &mut [u8], case: u32, seed: u32) -> Chain {
 // A file with leftovers alone: any bytes, or domains, or over zeros a byte in one of the first records off the chain.
 fn left(file: &mut [u8], case: u32, seed: u32) -> Chain {
     let style = match case % 3 {
-        0 => bytes::ANY,
-        1 => bytes::SMALL,
-        _ => bytes::ZEROS,
+        0 => bytes::Kind::Any,
+        1 => bytes::Kind::Small,
+        _ => bytes::Kind::Zeros,
     };
     bytes::fill(file, files::LONGEST, seed, style);
     let c = files::put_good(file, seed);
@@ -257,16 +266,16 @@ fn left(file: &mut [u8], case: u32, seed: u32) -> Chain {
 // Bytes of any sort, or of small fields, behind a record 0 that is followed.
 fn rough(file: &mut [u8], case: u32, seed: u32) -> u32 {
     match case % 4 {
-        0 => files::filled(file, bytes::ANY, 0, seed),
-        1 => files::filled(file, bytes::SPARSE, 0, seed),
-        2 => files::filled(file, bytes::SMALL, 0, seed),
+        0 => files::filled(file, bytes::Kind::Any, 0, seed),
+        1 => files::filled(file, bytes::Kind::Sparse, 0, seed),
+        2 => files::filled(file, bytes::Kind::Small, 0, seed),
         _ => files::small(file, seed),
     }
 }
 
 // A file of every length, over records that name each other.
 fn of_length(file: &mut [u8], case: u32, seed: u32) -> u32 {
-    bytes::fill(file, files::LONGEST, seed, bytes::SMALL);
+    bytes::fill(file, files::LONGEST, seed, bytes::Kind::Small);
     files::lengths(file, case, seed)
 }
 
@@ -285,8 +294,10 @@ fn unopened(file: &mut [u8], case: u32, seed: u32) -> u32 {
 }
 
 // The kinds of chains.
-fn put_chain(file: &mut [u8], kind: u32, case: u32, seed: u32) -> Chain {
-    match kind {
+fn put_chain(file: &mut [u8], of: Case) -> Chain {
+    let case = of.case;
+    let seed = of.seed;
+    match of.kind {
         19 => misled(file, case, seed),
         20 => summed(file, case, seed),
         21 => overfull(file, case, seed),
@@ -297,18 +308,20 @@ fn put_chain(file: &mut [u8], kind: u32, case: u32, seed: u32) -> Chain {
     }
 }
 
-fn chained(file: &mut [u8], kind: u32, case: u32, seed: u32) -> u32 {
-    let c = put_chain(file, kind, case, seed);
+fn chained(file: &mut [u8], of: Case) -> u32 {
+    let c = put_chain(file, of);
     bytes_of(c.records)
 }
 
 // Puts the file of a case of a kind from 18 on, and answers its length.
-pub fn put(file: &mut [u8], kind: u32, case: u32, seed: u32) -> u32 {
-    match kind {
+pub fn put(file: &mut [u8], of: Case) -> u32 {
+    let case = of.case;
+    let seed = of.seed;
+    match of.kind {
         25 => rough(file, case, seed),
         26 => files::one_byte(file, case, seed),
         27 => of_length(file, case, seed),
         28 => unopened(file, case, seed),
-        _ => chained(file, kind, case, seed),
+        _ => chained(file, of),
     }
 }

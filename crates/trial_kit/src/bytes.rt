@@ -1,32 +1,25 @@
 // Bytes of files and lent buffers: put and filled.
-ghost use Rattle.std.specs.Prelude.{◌<◌, ◌≤◌};
+ghost use Rattle.std.specs.Prelude.{◌<◌};
 
 use super::draw;
 
 // How bytes are filled: any, mostly zero, as records whose fields are small, or with zeros.
-pub const ANY: u32 = 0;
-
-pub const SPARSE: u32 = 1;
-
-pub const SMALL: u32 = 2;
-
-pub const ZEROS: u32 = 3;
-
-// How much of a buffer is lent where so much is asked for.
-pub fn least(a: usize, b: usize) -> usize
-    ensures { result ≤ b }
-{
-    if a < b { a } else { b }
+#[derive(Clone, Copy)]
+pub enum Kind {
+    Any,
+    Sparse,
+    Small,
+    Zeros,
 }
 
 pub fn put(file: &mut [u8], at: usize, b: u8) {
-    if at < file.len() {
-        file[at] = b;
+    if let Some(there) = file.get_mut(at) {
+        *there = b;
     }
 }
 
 pub fn get(file: &[u8], at: usize) -> u8 {
-    if at < file.len() { file[at] } else { 0 }
+    file.get(at).copied().unwrap_or(0)
 }
 
 // Where a byte of a record stands.
@@ -39,8 +32,9 @@ pub fn place(record: u32, offset: u32) -> usize
 // A number of two bytes, the low byte first.
 pub fn put_pair(file: &mut [u8], record: u32, offset: u32, value: u32) {
     let at = place(record, offset);
-    put(file, at, draw::low(value));
-    put(file, at + 1, draw::low(value / 256));
+    let b = value.to_le_bytes();
+    put(file, at, b[0]);
+    put(file, at + 1, b[1]);
 }
 
 // The number of two bytes at an offset of a record.
@@ -48,13 +42,7 @@ pub fn pair(file: &[u8], record: u32, offset: u32) -> u32
     ensures { result < 65536 }
 {
     let at = place(record, offset);
-    wide(get(file, at)) + wide(get(file, at + 1)) * 256
-}
-
-fn wide(b: u8) -> u32
-    ensures { result < 256 }
-{
-    b as u32
+    u32::from(get(file, at)) + u32::from(get(file, at + 1)) * 256
 }
 
 // Where a record has its link.
@@ -63,15 +51,11 @@ pub fn link_offset(record: u32) -> u32 {
 }
 
 // A record of six numbers, each two bytes, and zeros.
-pub fn put_record(file: &mut [u8], record: u32, a: u32, b: u32, q: u32, r: u32, w: u32, v: u32) {
-    put_pair(file, record, 0, a);
-    put_pair(file, record, 2, b);
-    put_pair(file, record, 4, q);
-    put_pair(file, record, 6, r);
-    put_pair(file, record, 8, w);
-    put_pair(file, record, 10, v);
-    put_pair(file, record, 12, 0);
-    put_pair(file, record, 14, 0);
+pub fn put_record(file: &mut [u8], record: u32, numbers: [u32; 6]) {
+    for k in 0..8 {
+        let number = numbers.get(k as usize).copied().unwrap_or(0);
+        put_pair(file, record, 2 * k, number);
+    }
 }
 
 // Of small fields: a link to one of eight records, a domain number to 17, a mark, now and then of 2, Q, R and W to 7, a
@@ -95,23 +79,23 @@ fn small_mark(x: u32) -> u8 {
     if x % 16 == 0 { 2 } else { draw::low(x % 2) }
 }
 
-fn filling(seed: u32, style: u32, at: u32) -> u8 {
+fn filling(seed: u32, fill: Kind, at: u32) -> u8 {
     let drawn = draw::draw(seed, at.wrapping_add(65536));
-    match style {
-        0 => draw::low(drawn),
-        1 => if drawn / 256 % 16 == 0 {
+    match fill {
+        Kind::Any => draw::low(drawn),
+        Kind::Sparse => if drawn / 256 % 16 == 0 {
             draw::low(drawn) % 32
         } else {
             0
         },
-        2 => small_byte(drawn, at),
-        _ => 0,
+        Kind::Small => small_byte(drawn, at),
+        Kind::Zeros => 0,
     }
 }
 
 // Fills the first bytes of a buffer, as many as are asked for or are there.
-pub fn fill(file: &mut [u8], bytes: u32, seed: u32, style: u32) {
+pub fn fill(file: &mut [u8], bytes: u32, seed: u32, fill: Kind) {
     for at in 0..bytes {
-        put(file, at as usize, filling(seed, style, at));
+        put(file, at as usize, filling(seed, fill, at));
     }
 }

@@ -5,6 +5,7 @@ use super::{bytes, draw, values};
 use plan::Plan;
 
 // What a file was laid with: its records, its period, how many domains are on the chain and the record of each.
+// These are an array with their count, since what lays files has no heap.
 #[derive(Clone, Copy)]
 pub struct Chain {
     pub records: u32,
@@ -35,7 +36,7 @@ fn put_domain(file: &mut [u8], p: Plan, record: u32, domain: u32) {
     let r = values::word(p, k + 2);
     let w = values::word(p, k + 3);
     let v = values::word(p, k + 4);
-    bytes::put_record(file, record, 0, domain % 16 + 1, q, r, w, v);
+    bytes::put_record(file, record, [0, domain % 16 + 1, q, r, w, v]);
     bytes::put(
         file,
         bytes::place(record, 3),
@@ -45,52 +46,48 @@ fn put_domain(file: &mut [u8], p: Plan, record: u32, domain: u32) {
 
 // Lays one domain at the chain's end, if it is planned and a record is left.
 fn with_domain(file: &mut [u8], p: Plan, order: [u32; 64], l: Laid, domain: u32) -> Laid {
-    let used = l.used;
-    if values::word(p, domain % 16 * 6) == 0 {
+    if values::word(p, domain % 16 * 6) == 0 || l.used >= l.most {
         return l;
     }
-    if used < l.most {
-        let index = record_at(order, used);
-        bytes::put_pair(file, l.last, bytes::link_offset(l.last), index);
-        put_domain(file, p, index, domain);
-        Laid {
-            used: used + 1,
-            most: l.most,
-            last: index,
-        }
-    } else {
-        l
+    let index = record_at(order, l.used);
+    bytes::put_pair(file, l.last, bytes::link_offset(l.last), index);
+    put_domain(file, p, index, domain);
+    Laid {
+        used: l.used + 1,
+        last: index,
+        ..l
     }
 }
 
 // How the records of a chain stand in the file: one behind the other, one before the other from the last on, or as drawn.
-const RISING: u32 = 0;
-
-const FALLING: u32 = 1;
-
-const DRAWN: u32 = 2;
+#[derive(Clone, Copy)]
+pub enum Order {
+    Rising,
+    Falling,
+    Drawn,
+}
 
 // The first so many records from 1 up in such an order.
-fn order_of(way: u32, most: u32, seed: u32) -> [u32; 64] {
-    match way {
-        RISING => draw::row(most, false),
-        FALLING => draw::row(most, true),
-        _ => draw::shuffled(seed, 500, most),
+fn row_of(order: Order, most: u32, seed: u32) -> [u32; 64] {
+    match order {
+        Order::Rising => draw::row(most, false),
+        Order::Falling => draw::row(most, true),
+        Order::Drawn => draw::shuffled(seed, 500, most),
     }
 }
 
 // Lays a plan into so many records, those off the chain left as they are. The chain's order and its records are drawn.
 pub fn lay(file: &mut [u8], p: Plan, records: u32, seed: u32) -> Chain {
-    lay_in(file, p, records, DRAWN, seed)
+    lay_in(file, p, records, Order::Drawn, seed)
 }
 
 // Lays a plan with the chain's records in rising, falling or drawn order.
-pub fn lay_in(file: &mut [u8], p: Plan, records: u32, way: u32, seed: u32) -> Chain {
-    let most = if records == 0 { 0 } else { records - 1 };
-    let order = order_of(way, most, seed);
+pub fn lay_in(file: &mut [u8], p: Plan, records: u32, order: Order, seed: u32) -> Chain {
+    let most = records.saturating_sub(1);
+    let order = row_of(order, most, seed);
     let domains = draw::shuffled(seed, 600, 16);
-    let period = values::wide(p.period);
-    bytes::put_record(file, 0, period, 0, 0, 0, 0, 0);
+    let period = u32::from(p.period);
+    bytes::put_record(file, 0, [period, 0, 0, 0, 0, 0]);
     let used = lay_domains(file, p, order, domains, most);
     Chain {
         records,

@@ -3,7 +3,7 @@ ghost use Rattle.std.specs.Prelude.{◌<◌, ◌≤◌};
 
 // The low 32 bits of a product with an odd constant.
 fn times(x: u32) -> u32 {
-    ((x as u64) * 2146121005 % 4294967296) as u32
+    x.wrapping_mul(2146121005)
 }
 
 fn mixed(x: u32) -> u32 {
@@ -32,39 +32,24 @@ pub fn low(x: u32) -> u8 {
     (x % 256) as u8
 }
 
-fn swapped_in(order: [u32; 64], i: u32, j: u32) -> [u32; 64] {
-    let to = i as usize;
-    let from = j as usize;
-    if to < 64 {
-        if from < 64 {
-            let mut after = order;
-            after[to] = order[from];
-            after[from] = i;
-            return after;
-        }
-    }
-    order
-}
-
 // The numbers below n, at most 64 of them, in a drawn order.
 pub fn shuffled(seed: u32, salt: u32, n: u32) -> [u32; 64] {
     let mut order = [0u32; 64];
-    for i in 0..n {
-        let j = upto(seed, salt.wrapping_add(i), i);
-        let next = swapped_in(order, i, j);
-        order = next;
+    for i in 0..n.min(64) {
+        let j = upto(seed, salt.wrapping_add(i), i) as usize;
+        order[i as usize] = order[j];
+        order[j] = i;
     }
     order
 }
 
 // The number at a place of a row of those below n.
 fn in_row(n: u32, place: u32, falling: bool) -> u32 {
-    if falling {
-        if place < n {
-            return n - 1 - place;
-        }
+    if falling && place < n {
+        n - 1 - place
+    } else {
+        place
     }
-    place
 }
 
 // The numbers below 64 in rising order, or first those below n in falling order.

@@ -2,26 +2,34 @@
 use super::chain::Chain;
 use super::{bytes, chain, draw};
 
-// The faults by number: 8 of a link, then 5 of a domain number, 5 of a mark and of a byte that has to be zero, 9 of Q, R and W,
-// 5 of the writeback reservation, and 6 of a mark, of which the last two are none.
-pub const LINKS: u32 = 0;
+// A fault, by its part and which of that part: 8 of a link, 5 of a domain number, 5 of a mark and of a byte that has to be
+// zero, 9 of Q, R and W, 5 of the writeback reservation, and 6 of a mark, of which the last two are none.
+#[derive(Clone, Copy)]
+pub enum Fault {
+    Link(u32),
+    Number(u32),
+    Unlisted(u32),
+    Amount(u32),
+    Write(u32),
+    Mark(u32),
+}
 
-pub const NUMBERS: u32 = 8;
-
-pub const UNLISTED: u32 = 13;
-
-pub const AMOUNTS: u32 = 18;
-
-pub const WRITES: u32 = 27;
-
-pub const MARKS: u32 = 32;
-
-pub const ALL: u32 = 38;
+// Any of these, drawn.
+pub fn drawn(seed: u32, salt: u32) -> Fault {
+    match draw::upto(seed, salt, 37) {
+        k @ 0..=7 => Fault::Link(k),
+        k @ 8..=12 => Fault::Number(k - 8),
+        k @ 13..=17 => Fault::Unlisted(k - 13),
+        k @ 18..=26 => Fault::Amount(k - 18),
+        k @ 27..=31 => Fault::Write(k - 27),
+        k => Fault::Mark(k.wrapping_sub(32)),
+    }
+}
 
 // Where a link leads: mostly to no record or back on the chain, now and then where it may.
-fn bad_link(c: Chain, record: u32, fault: u32, seed: u32) -> u32 {
+fn bad_link(c: Chain, record: u32, which: u32, seed: u32) -> u32 {
     let order = c.order;
-    match fault {
+    match which {
         0 => c.records,
         1 => 64,
         2 => 65535,
@@ -34,20 +42,20 @@ fn bad_link(c: Chain, record: u32, fault: u32, seed: u32) -> u32 {
 }
 
 // 0, 17, 255, the number that another record has, or any.
-fn bad_number(fault: u32, other: u8, seed: u32) -> u8 {
-    match fault {
-        8 => 0,
-        9 => 17,
-        10 => 255,
-        11 => other,
+fn bad_number(which: u32, other: u8, seed: u32) -> u8 {
+    match which {
+        0 => 0,
+        1 => 17,
+        2 => 255,
+        3 => other,
         _ => draw::low(draw::upto(seed, 703, 255)),
     }
 }
 
 // Byte 3, or one of 12 to 15.
-fn unlisted_offset(fault: u32) -> u32 {
-    match fault {
-        14..=17 => fault - 2,
+fn unlisted_offset(which: u32) -> u32 {
+    match which {
+        1..=4 => 11 + which,
         _ => 3,
     }
 }
@@ -61,15 +69,15 @@ fn bad_amount(period: u32, which: u32) -> u32 {
     }
 }
 
-fn damage_number(file: &mut [u8], c: Chain, record: u32, fault: u32, seed: u32) {
+fn damage_number(file: &mut [u8], c: Chain, record: u32, which: u32, seed: u32) {
     let other = bytes::get(file, bytes::place(record_on_chain(c, seed, 705), 2));
-    let number = bad_number(fault, other, seed);
+    let number = bad_number(which, other, seed);
     bytes::put(file, bytes::place(record, 2), number);
 }
 
 // A byte that draws 8: from 1 on, or from 2 on for a mark.
-fn damage_unlisted(file: &mut [u8], record: u32, fault: u32, seed: u32) {
-    let offset = unlisted_offset(fault);
+fn damage_unlisted(file: &mut [u8], record: u32, which: u32, seed: u32) {
+    let offset = unlisted_offset(which);
     let drawn = draw::upto(seed, 704, if offset == 3 { 253 } else { 254 });
     let b = draw::low(255u32.wrapping_sub(drawn));
     bytes::put(file, bytes::place(record, offset), b);
@@ -108,29 +116,18 @@ fn damage_reservation(file: &mut [u8], period: u32, record: u32, which: u32) {
 }
 
 // Puts a fault into a record; in record 0 a fault of a link alone.
-pub fn damage(file: &mut [u8], c: Chain, record: u32, fault: u32, seed: u32) {
-    if fault < NUMBERS {
-        let link = bad_link(c, record, fault, seed);
-        bytes::put_pair(file, record, bytes::link_offset(record), link);
-        return;
+pub fn damage(file: &mut [u8], c: Chain, record: u32, fault: Fault, seed: u32) {
+    match fault {
+        Fault::Link(which) => {
+            let link = bad_link(c, record, which, seed);
+            bytes::put_pair(file, record, bytes::link_offset(record), link);
+        }
+        Fault::Number(which) => damage_number(file, c, record, which, seed),
+        Fault::Unlisted(which) => damage_unlisted(file, record, which, seed),
+        Fault::Amount(which) => damage_amount(file, c.period, record, which),
+        Fault::Write(which) => damage_reservation(file, c.period, record, which),
+        Fault::Mark(which) => damage_mark(file, record, which),
     }
-    if fault < UNLISTED {
-        damage_number(file, c, record, fault, seed);
-        return;
-    }
-    if fault < AMOUNTS {
-        damage_unlisted(file, record, fault, seed);
-        return;
-    }
-    if fault < WRITES {
-        damage_amount(file, c.period, record, fault - AMOUNTS);
-        return;
-    }
-    if fault < MARKS {
-        damage_reservation(file, c.period, record, fault - WRITES);
-        return;
-    }
-    damage_mark(file, record, fault - MARKS);
 }
 
 // A record of the chain; record 1 or another off it where the chain is empty.
@@ -144,11 +141,9 @@ pub fn record_on_chain(c: Chain, seed: u32, salt: u32) -> u32 {
 }
 
 // A record that a fault may go into: one of the chain, and for a fault of a link now and then record 0.
-pub fn record_for(c: Chain, fault: u32, seed: u32, salt: u32) -> u32 {
-    if fault < NUMBERS {
-        if draw::upto(seed, 706, c.domains) == 0 {
-            return 0;
-        }
+pub fn record_for(c: Chain, fault: Fault, seed: u32, salt: u32) -> u32 {
+    if matches!(fault, Fault::Link(_)) && draw::upto(seed, 706, c.domains) == 0 {
+        return 0;
     }
     record_on_chain(c, seed, salt)
 }

@@ -4,16 +4,11 @@ use super::{bytes, draw, lines};
 
 // One record more.
 fn put_record(file: &mut [u8], size: usize, given: &[u8], at: usize) -> usize {
-    bytes::put_record(
-        file,
-        (size / 16 % 64) as u32,
-        lines::small(given, at, 5, 5),
-        lines::small(given, at, 11, 5),
-        lines::small(given, at, 17, 5),
-        lines::small(given, at, 23, 5),
-        lines::small(given, at, 29, 5),
-        lines::small(given, at, 35, 5),
-    );
+    let mut numbers = [0u32; 6];
+    for k in 0..6 {
+        numbers[k] = lines::small(given, at, 5 + 6 * k, 5);
+    }
+    bytes::put_record(file, (size / 16 % 64) as u32, numbers);
     size.wrapping_add(16)
 }
 

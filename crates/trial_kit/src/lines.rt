@@ -4,21 +4,12 @@ ghost use Rattle.std.specs.Prelude.{◌<◌, ◌≤◌, length};
 use std::io;
 
 pub fn byte(text: &[u8], at: usize) -> u8 {
-    if at < text.len() { text[at] } else { 10 }
+    text.get(at).copied().unwrap_or(10)
 }
 
 pub fn digit(text: &[u8], from: usize, k: usize) -> u8 {
     let b = byte(text, from.wrapping_add(k));
-    if b < b'0' {
-        return 0;
-    }
-    if b > b'9' { 0 } else { b - b'0' }
-}
-
-fn wide(x: u8) -> u64
-    ensures { result < 256 }
-{
-    x as u64
+    if b.is_ascii_digit() { b - b'0' } else { 0 }
 }
 
 // The number of so many digits, at an offset of the line that begins at a place; 0 behind the line's end.
@@ -32,39 +23,29 @@ pub fn number(text: &[u8], at: usize, offset: usize, digits: usize) -> u64 {
 }
 
 fn digits_from(text: &[u8], from: usize, digits: usize) -> u64 {
-    let mut value: u64 = 0;
-    for k in 0..digits {
-        value = value % 100000000000 * 10 + wide(digit(text, from, k));
-    }
-    value
+    (0..digits).fold(0, |value, k| {
+        value % 100000000000 * 10 + u64::from(digit(text, from, k))
+    })
 }
 
 // The number at an offset of such a line, of as many digits as stand there.
 pub fn figure(text: &[u8], at: usize, offset: usize) -> u64 {
-    for digits in 0..20 {
-        if !is_digit(byte(text, place(at, offset, digits))) {
-            return number(text, at, offset, digits);
-        }
-    }
-    number(text, at, offset, 20)
+    let digits = (0..20)
+        .find(|&k| !byte(text, place(at, offset, k)).is_ascii_digit())
+        .unwrap_or(20);
+    number(text, at, offset, digits)
 }
 
 fn place(at: usize, offset: usize, k: usize) -> usize {
     at.wrapping_add(offset).wrapping_add(k)
 }
 
-fn is_digit(b: u8) -> bool {
-    b >= b'0' && b <= b'9'
-}
-
 // The bits that the line's last digits are, up to sixteen hexadecimal ones, from the highest on; those left out are zeros.
 pub fn bits(text: &[u8], at: usize, offset: usize) -> u64 {
     let end = line_end(text, at);
-    let mut value: u64 = 0;
-    for k in 0..16 {
-        value = value % 1152921504606846976 * 16 + nibble_at(text, place(at, offset, k), end);
-    }
-    value
+    (0..16).fold(0, |value, k| {
+        value % 1152921504606846976 * 16 + nibble_at(text, place(at, offset, k), end)
+    })
 }
 
 // The digit at a place before the line's end, and 0 from there on. The low four bits of a figure's byte are the figure.
@@ -75,10 +56,10 @@ fn nibble_at(text: &[u8], at: usize, end: usize) -> u64
     if at >= end {
         return 0;
     }
-    if is_digit(b) {
-        wide(b) % 16
+    if b.is_ascii_digit() {
+        u64::from(b) % 16
     } else {
-        (wide(b) + 9) % 16
+        (u64::from(b) + 9) % 16
     }
 }
 
@@ -92,12 +73,9 @@ pub fn small(text: &[u8], at: usize, offset: usize, digits: usize) -> u32
 pub fn line_end(text: &[u8], from: usize) -> usize
     ensures { result ≤ length text.now }
 {
-    for at in from..text.len() {
-        if text[at] == 10 {
-            return at;
-        }
-    }
-    text.len()
+    (from..text.len())
+        .find(|&at| text[at] == 10)
+        .unwrap_or(text.len())
 }
 
 // Where the next line begins.
@@ -109,15 +87,22 @@ pub fn after_line(text: &[u8], from: usize) -> usize
     if from <= end { end + 1 } else { text.len() }
 }
 
+// The text from its second line on.
+pub fn next_line(text: &[u8]) -> &[u8]
+    requires { 0 < length text.now }
+    ensures { length result.now < length text.now }
+{
+    let from = after_line(text, 0);
+    text.get(from..).unwrap_or(&[])
+}
+
 // Where line k of a text begins, from 0 on; the text's end where it has not so many.
 fn line_start(text: &[u8], k: usize) -> usize {
-    let mut left = k;
-    let mut at: usize = 0;
-    while at < text.len() {
-        if left == 0 {
-            return at;
+    let mut at = 0;
+    for _ in 0..k {
+        if at >= text.len() {
+            break;
         }
-        left -= 1;
         at = after_line(text, at);
     }
     at

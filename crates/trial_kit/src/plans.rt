@@ -19,7 +19,7 @@ fn damaged(p: Plan, seed: u32, salt: u32) -> Plan {
     let most = if which % 4 == 3 {
         values::word(p, k - 1)
     } else {
-        values::wide(p.period)
+        u32::from(p.period)
     };
     values::with_word(p, k, wrong(seed, salt.wrapping_add(1), most))
 }
@@ -76,7 +76,7 @@ fn above(p: Plan, domain: u32, seed: u32) -> Plan {
     let value = if draw::upto(seed, 72, 1) == 0 {
         65535
     } else {
-        values::wide(p.period) + 1
+        u32::from(p.period) + 1
     };
     let present = values::with_word(p, k, 1);
     values::with_word(present, k + 1 + draw::upto(seed, 73, 2), value)
@@ -87,7 +87,7 @@ fn above_cap(p: Plan, domain: u32, seed: u32) -> Plan {
     let k = domain % 16 * 6;
     let value = match draw::upto(seed, 75, 3) {
         0 => 65535,
-        1 => values::wide(p.period) + 1,
+        1 => u32::from(p.period) + 1,
         _ => values::word(p, k + 3).wrapping_add(1),
     };
     values::with_word(values::with_word(p, k, 1), k + 4, value)
@@ -119,7 +119,7 @@ fn marks_left(p: Plan, case: u32, seed: u32) -> Plan {
 // mark of such a one (4), with 11 (3), or else with 10, of Q alone or of one Q and one V.
 pub fn spoiled(p: Plan, way: u32, seed: u32) -> Plan {
     let n = draw::upto(seed, 74, 14);
-    let period = values::wide(p.period);
+    let period = u32::from(p.period);
     match way {
         0 => values::with_period(p, no_period(seed)),
         1 => above(p, n, seed),
@@ -137,7 +137,7 @@ pub fn spoiled(p: Plan, way: u32, seed: u32) -> Plan {
 // A domain of each number in turn, planned with Q 0 and with V of 0, W, one more, P + 1 or the most that it holds; now and
 // then with another fault too.
 fn reserved_writebacks(p: Plan, case: u32, seed: u32) -> Plan {
-    let period = values::wide(p.period);
+    let period = u32::from(p.period);
     let w = draw::upto(seed, 77, period);
     let v = match case % 5 {
         0 => 0,
@@ -156,9 +156,9 @@ fn reserved_writebacks(p: Plan, case: u32, seed: u32) -> Plan {
 
 // A plan that is damaged in one number (0), has a number in an absent domain (1), several faults (2), sums of both
 // reservations around P and 65,536 (3), any period (4), V around W (6), or the mark of an absent domain (7), or else is
-// accepted.
+// accepted. The ways are numbers, since callers count through them.
 pub fn made(way: u32, case: u32, seed: u32) -> Plan {
-    let good = values::drawn(seed, values::GOOD);
+    let good = values::drawn(seed, values::Kind::Good);
     match way {
         0 => damaged(good, seed, 20),
         1 => absent(good, seed),

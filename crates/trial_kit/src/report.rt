@@ -42,6 +42,22 @@ pub fn told_lines(rt: &impl Print, t: Tally, numbers: &[u32]) -> io::Result<()> 
     Ok(())
 }
 
+// Where something differed, its first case, behind the name of its kind.
+pub fn first_line<S: FnOnce(u32) -> io::Result<()>>(
+    rt: &impl Print,
+    t: Tally,
+    say_name: S,
+) -> io::Result<()>
+    requires { S.IsAlwaysCallable say_name }
+{
+    if let Some(first) = t.first {
+        print!(rt; "first difference: ")?;
+        say_name(first.kind)?;
+        println!(rt; ", case {}", first.case)?;
+    }
+    Ok(())
+}
+
 pub fn total_line(rt: &impl Print, t: Tally) -> io::Result<()> {
     println!(rt; "all: compared {}, differ {}", t.allcompared, t.alldiffer)
 }

@@ -17,33 +17,24 @@ fn reached(file: &[u8]) -> [bool; 64] {
     on
 }
 
-// The record from 1 up that is the given one, counted from 0, of those that the chain does not reach; 0 where so many are not.
+// The record from 1 up that is the given one, counted from 0, of those that the chain does not reach; 0 where so many are not,
+// as a link to none is 0: callers put it as a record's number or tell it as a place.
 pub fn nth(file: &[u8], n: u32) -> u32
     ensures { result < 64 }
 {
     let on = reached(file);
-    let mut left = n;
-    for k in 1..64 {
-        if !on[k as usize] {
-            if left == 0 {
-                return k;
-            }
-            left -= 1;
-        }
-    }
-    0
+    (1..64)
+        .filter(|&k| on.get(k as usize) == Some(&false))
+        .nth(n as usize)
+        .unwrap_or(0)
 }
 
 // Puts all of these to zeros.
 pub fn clear(file: &mut [u8]) {
     let on = reached(file);
     for k in 1..64 {
-        clear_unless(file, k, on[k as usize]);
-    }
-}
-
-fn clear_unless(file: &mut [u8], record: u32, on: bool) {
-    if !on {
-        bytes::put_record(file, record, 0, 0, 0, 0, 0, 0);
+        if !on[k as usize] {
+            bytes::put_record(file, k, [0, 0, 0, 0, 0, 0]);
+        }
     }
 }

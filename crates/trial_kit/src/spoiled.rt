@@ -1,8 +1,9 @@
 // Files that are made to be refused with a number: a fault of 4 to 9 or 11 at a place of the chain, and one of 1 to 11.
 use super::chain::Chain;
+use super::faults::Fault;
 use super::{bytes, chain, draw, faults, files};
 
-// The refusal of 4 to 9 or 11 that is put in, or 0 for none, and how many records are taken.
+// The refusal of 4 to 9 or 11 that is put in, and how many records are taken.
 #[derive(Clone, Copy)]
 pub struct Spot {
     pub fault: u32,
@@ -19,15 +20,15 @@ pub fn place(fault: u32, turn: u32) -> u32 {
 }
 
 // A damage that surely draws the fault.
-fn damage_of(fault: u32, seed: u32) -> u32 {
+fn damage_of(fault: u32, seed: u32) -> Fault {
     match fault {
-        4 => faults::LINKS + draw::upto(seed, 710, 2),
-        5 => faults::LINKS + 3,
-        6 => faults::NUMBERS + draw::upto(seed, 710, 2),
-        7 => faults::NUMBERS + 3,
-        8 => faults::UNLISTED + draw::upto(seed, 710, 4),
-        11 => faults::WRITES + draw::upto(seed, 710, 1),
-        _ => faults::AMOUNTS + 1 + draw::upto(seed, 710, 2) * 3 + draw::upto(seed, 711, 1),
+        4 => Fault::Link(draw::upto(seed, 710, 2)),
+        5 => Fault::Link(3),
+        6 => Fault::Number(draw::upto(seed, 710, 2)),
+        7 => Fault::Number(3),
+        8 => Fault::Unlisted(draw::upto(seed, 710, 4)),
+        11 => Fault::Write(draw::upto(seed, 710, 1)),
+        _ => Fault::Amount(1 + draw::upto(seed, 710, 2) * 3 + draw::upto(seed, 711, 1)),
     }
 }
 

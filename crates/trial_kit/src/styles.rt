@@ -1,47 +1,36 @@
-// Plans of a style.
+// Plans of a kind.
 use super::{draw, plans, values};
 use plan::Plan;
 
-// The styles: accepted and refused values, P 1, P 2 to 40, P 4,096, no domains, sixteen domains, all Q zero, sums
+// The kinds: accepted and refused values, P 1, P 2 to 40, P 4,096, no domains, sixteen domains, all Q zero, sums
 // of both reservations equal to P, P 1 to 8, P 2 to 20 with no writeback reservations, as older plans have, P 2 to 16 with
 // every domain marked, one to sixteen domains that may write back in every slot, P 1 to 3 with sixteen domains, and one to
 // sixteen domains whose claims and caps are soon used up.
-pub const ACCEPTED: u32 = 0;
-
-pub const REFUSED: u32 = 1;
-
-pub const ONE: u32 = 2;
-
-pub const SMALL: u32 = 3;
-
-pub const MOST: u32 = 4;
-
-pub const NONE: u32 = 5;
-
-pub const SIXTEEN: u32 = 6;
-
-pub const UNRESERVED: u32 = 7;
-
-pub const WHOLE: u32 = 8;
-
-pub const LEAST: u32 = 9;
-
-pub const OLDER: u32 = 10;
-
-pub const MARKED: u32 = 11;
-
-pub const CROWDED: u32 = 12;
-
-pub const SHORT: u32 = 13;
-
-pub const TIGHT: u32 = 14;
+#[derive(Clone, Copy)]
+pub enum Kind {
+    Accepted,
+    Refused,
+    One,
+    Small,
+    Most,
+    None,
+    Sixteen,
+    Unreserved,
+    Whole,
+    Least,
+    Older,
+    Marked,
+    Crowded,
+    Short,
+    Tight,
+}
 
 // Plans with few large or with many small reservations.
 fn mixed(seed: u32, period: u32) -> Plan {
     if draw::upto(seed, 5, 2) == 0 {
-        values::drawn_in(seed, values::GOOD, period)
+        values::drawn_in(seed, values::Kind::Good, period)
     } else {
-        values::drawn_in(seed, values::LARGE, period)
+        values::drawn_in(seed, values::Kind::Large, period)
     }
 }
 
@@ -67,7 +56,7 @@ fn marked(p: Plan) -> Plan {
 
 // P 1, where a reservation of 1, of either kind, is the whole period.
 fn of_one_slot(seed: u32, case: u32) -> Plan {
-    let without = older(unreserved(values::drawn_in(seed, values::WHOLE, 1)));
+    let without = older(unreserved(values::drawn_in(seed, values::Kind::Whole, 1)));
     let n = draw::upto(seed, 6, 15);
     match case % 3 {
         0 => mixed(seed, 1),
@@ -89,7 +78,7 @@ fn lowered(p: Plan, most: u32) -> Plan {
 fn writers(seed: u32, case: u32, period: u32, w: u32, most: u32) -> Plan {
     let domains = case % 16 + 1;
     let first = draw::upto(seed, 6, 15);
-    let mut p = values::with_period(values::nothing(), period);
+    let mut p = values::with_period(plan::no_domains(0), period);
     for n in 0..domains {
         p = with_writer(p, first + n, w, most, seed);
     }
@@ -111,31 +100,31 @@ fn tight(seed: u32, case: u32) -> Plan {
 fn with_writer(p: Plan, n: u32, w: u32, most: u32, seed: u32) -> Plan {
     let drawn = draw::draw(seed, n.wrapping_add(100));
     let v = draw::upto(drawn, 1, most);
-    let q = draw::upto(drawn, 2, if v <= most { most - v } else { 0 });
+    let q = draw::upto(drawn, 2, most.saturating_sub(v));
     let numbered = values::with_numbers(p, n, q, draw::upto(drawn, 3, w), w, v);
     values::with_mark(numbered, n, draw::upto(drawn, 4, 3) == 0)
 }
 
-// A plan of the style.
-pub fn plan_of(style: u32, case: u32, seed: u32) -> Plan {
-    match style {
-        0 => values::drawn(seed, values::GOOD),
-        1 => plans::made(case % 8, case / 8, seed),
-        2 => of_one_slot(seed, case),
-        3 => mixed(seed, 2 + draw::upto(seed, 4, 38)),
-        4 => mixed(seed, 4096),
-        5 => values::with_period(values::nothing(), 1 + draw::upto(seed, 4, 11)),
-        6 => lowered(
-            values::drawn_in(seed, values::WHOLE, 16 + draw::upto(seed, 4, 40)),
+// A plan of the kind.
+pub fn plan_of(kind: Kind, case: u32, seed: u32) -> Plan {
+    match kind {
+        Kind::Accepted => values::drawn(seed, values::Kind::Good),
+        Kind::Refused => plans::made(case % 8, case / 8, seed),
+        Kind::One => of_one_slot(seed, case),
+        Kind::Small => mixed(seed, 2 + draw::upto(seed, 4, 38)),
+        Kind::Most => mixed(seed, 4096),
+        Kind::None => values::with_period(plan::no_domains(0), 1 + draw::upto(seed, 4, 11)),
+        Kind::Sixteen => lowered(
+            values::drawn_in(seed, values::Kind::Whole, 16 + draw::upto(seed, 4, 40)),
             draw::upto(seed, 6, 3),
         ),
-        7 => unreserved(mixed(seed, 2 + draw::upto(seed, 4, 20))),
-        8 => values::drawn_in(seed, values::WHOLE, 2 + draw::upto(seed, 4, 38)),
-        9 => mixed(seed, 1 + draw::upto(seed, 4, 7)),
-        10 => older(mixed(seed, 2 + draw::upto(seed, 4, 18))),
-        11 => marked(mixed(seed, 2 + draw::upto(seed, 4, 14))),
-        12 => crowded(seed, case),
-        13 => values::drawn_in(seed, values::WHOLE, 1 + case % 3),
-        _ => tight(seed, case),
+        Kind::Unreserved => unreserved(mixed(seed, 2 + draw::upto(seed, 4, 20))),
+        Kind::Whole => values::drawn_in(seed, values::Kind::Whole, 2 + draw::upto(seed, 4, 38)),
+        Kind::Least => mixed(seed, 1 + draw::upto(seed, 4, 7)),
+        Kind::Older => older(mixed(seed, 2 + draw::upto(seed, 4, 18))),
+        Kind::Marked => marked(mixed(seed, 2 + draw::upto(seed, 4, 14))),
+        Kind::Crowded => crowded(seed, case),
+        Kind::Short => values::drawn_in(seed, values::Kind::Whole, 1 + case % 3),
+        Kind::Tight => tight(seed, case),
     }
 }

@@ -7,8 +7,15 @@ pub struct Verdict {
     pub same: bool,
 }
 
+// A case by its kind and its number there.
+#[derive(Clone, Copy)]
+pub struct First {
+    pub kind: u32,
+    pub case: u32,
+}
+
 // The counts of the kind at hand, where leftovers are those refused with 12, those of all kinds, how often each refusal was
-// told, and the first difference.
+// told, and the first case that differed.
 #[derive(Clone, Copy)]
 pub struct Tally {
     pub compared: u32,
@@ -19,12 +26,7 @@ pub struct Tally {
     pub allcompared: u32,
     pub alldiffer: u32,
     pub told: [u32; 64],
-    pub firstkind: u32,
-    pub firstcase: u32,
-}
-
-pub fn both(a: bool, b: bool) -> bool {
-    a && b
+    pub first: Option<First>,
 }
 
 pub fn start() -> Tally {
@@ -37,8 +39,7 @@ pub fn start() -> Tally {
         allcompared: 0,
         alldiffer: 0,
         told: [0; 64],
-        firstkind: 0,
-        firstcase: 0,
+        first: None,
     }
 }
 
@@ -74,9 +75,8 @@ fn with_told(t: Tally, number: u32) -> Tally {
 
 fn with_difference(t: Tally, kind: u32, case: u32) -> Tally {
     let mut after = t;
-    if after.alldiffer == 0 {
-        after.firstkind = kind;
-        after.firstcase = case;
+    if after.first.is_none() {
+        after.first = Some(First { kind, case });
     }
     after.differ = more(after.differ);
     after.alldiffer = more(after.alldiffer);

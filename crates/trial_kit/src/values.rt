@@ -6,40 +6,30 @@ use plan::Plan;
 
 // How a plan is drawn: any that is accepted, sixteen domains whose reservations of both kinds sum to P, sixteen of 4,096 each,
 // one with large reservations that is accepted, or sixteen domains whose reservations mostly come to more than P.
-pub const GOOD: u32 = 0;
-
-pub const WHOLE: u32 = 1;
-
-pub const FULL: u32 = 2;
-
-pub const LARGE: u32 = 3;
-
-pub const OVER: u32 = 4;
-
-pub fn wide(x: u16) -> u32
-    ensures { result < 65536 }
-{
-    x as u32
+#[derive(Clone, Copy, PartialEq, Eq)]
+pub enum Kind {
+    Good,
+    Whole,
+    Full,
+    Large,
+    Over,
 }
 
-pub fn narrow(x: u32) -> u16 {
+// The low two bytes of a number.
+pub fn narrow(x: u64) -> u16 {
     (x % 65536) as u16
-}
-
-fn one_if(b: bool) -> u32 {
-    if b { 1 } else { 0 }
 }
 
 // Word k of a plan as the model has it: at 6 * (n - 1) present, Q, R, W, the writeback reservation V and the mark of domain n.
 pub fn word(p: Plan, k: u32) -> u32 {
     let i = (k / 6 % 16) as usize;
     match k % 6 {
-        0 => one_if(p.planned[i]),
-        1 => wide(p.reservation[i]),
-        2 => wide(p.reclaimcap[i]),
-        3 => wide(p.writebackcap[i]),
-        4 => wide(p.writebackreservation[i]),
-        _ => one_if(p.marked[i]),
+        0 => u32::from(p.planned[i]),
+        1 => u32::from(p.reservation[i]),
+        2 => u32::from(p.reclaimcap[i]),
+        3 => u32::from(p.writebackcap[i]),
+        4 => u32::from(p.writebackreservation[i]),
+        _ => u32::from(p.marked[i]),
     }
 }
 
@@ -49,10 +39,10 @@ pub fn with_word(p: Plan, k: u32, value: u32) -> Plan {
     let i = (k / 6 % 16) as usize;
     match k % 6 {
         0 => after.planned[i] = value != 0,
-        1 => after.reservation[i] = narrow(value),
-        2 => after.reclaimcap[i] = narrow(value),
-        3 => after.writebackcap[i] = narrow(value),
-        4 => after.writebackreservation[i] = narrow(value),
+        1 => after.reservation[i] = narrow(u64::from(value)),
+        2 => after.reclaimcap[i] = narrow(u64::from(value)),
+        3 => after.writebackcap[i] = narrow(u64::from(value)),
+        4 => after.writebackreservation[i] = narrow(u64::from(value)),
         _ => after.marked[i] = value != 0,
     }
     after
@@ -60,12 +50,12 @@ pub fn with_word(p: Plan, k: u32, value: u32) -> Plan {
 
 // The plan with the mark of domain n + 1 put to yes or no.
 pub fn with_mark(p: Plan, n: u32, mark: bool) -> Plan {
-    with_word(p, n % 16 * 6 + 5, one_if(mark))
+    with_word(p, n % 16 * 6 + 5, u32::from(mark))
 }
 
 pub fn with_period(p: Plan, period: u32) -> Plan {
     let mut after = p;
-    after.period = narrow(period);
+    after.period = narrow(u64::from(period));
     after
 }
 
@@ -79,28 +69,11 @@ pub fn words(p: Plan) -> [u32; 96] {
 
 // The plan of this period and these words.
 pub fn plan_of(period: u32, words: [u32; 96]) -> Plan {
-    let mut p = with_period(nothing(), period);
+    let mut p = with_period(plan::no_domains(0), period);
     for k in 0..96 {
         p = with_word(p, k, words[k as usize]);
     }
     p
-}
-
-// Whether all words of one list are those of another.
-pub fn same_words(a: &[u32], b: &[u32]) -> bool {
-    b.starts_with(a)
-}
-
-pub fn nothing() -> Plan {
-    Plan {
-        period: 0,
-        planned: [false; 16],
-        reservation: [0; 16],
-        reclaimcap: [0; 16],
-        writebackcap: [0; 16],
-        writebackreservation: [0; 16],
-        marked: [false; 16],
-    }
 }
 
 // A number from 0 to the most given, often one of the ends.
@@ -112,8 +85,8 @@ fn amount(seed: u32, salt: u32, most: u32) -> u32 {
     }
 }
 
-fn drawn_period(seed: u32, style: u32) -> u32 {
-    if style == FULL {
+fn drawn_period(seed: u32, style: Kind) -> u32 {
+    if style == Kind::Full {
         return 4096;
     }
     match draw::upto(seed, 1, 5) {
@@ -123,33 +96,31 @@ fn drawn_period(seed: u32, style: u32) -> u32 {
     }
 }
 
-// Whether a domain is left out: of plans of the styles WHOLE, FULL and OVER none is.
-fn left_out(seed: u32, style: u32, n: u32) -> bool {
+// Whether a domain is left out: of plans of the styles Whole, Full and Over none is.
+fn left_out(seed: u32, style: Kind, n: u32) -> bool {
     match style {
-        1 | 2 | 4 => false,
+        Kind::Whole | Kind::Full | Kind::Over => false,
         _ => draw::upto(seed, n.wrapping_add(100), 3) < draw::upto(seed, 3, 4),
     }
 }
 
-// The most that is drawn for both reservations of a domain: in the style OVER from a quarter of the period to all of it,
+// The most that is drawn for both reservations of a domain: in the style Kind::Over from a quarter of the period to all of it,
 // whatever is left.
-fn most_of(seed: u32, style: u32, left: u32, period: u32) -> u32 {
+fn most_of(seed: u32, style: Kind, left: u32, period: u32) -> u32 {
     match style {
-        3 => left,
-        4 => period / (1 + draw::upto(seed, 90, 3)),
+        Kind::Large => left,
+        Kind::Over => period / (1 + draw::upto(seed, 90, 3)),
         _ => left / 4,
     }
 }
 
 // Both reservations of domain n + 1 together, where so much of the period is left.
-fn share(seed: u32, style: u32, n: u32, left: u32, period: u32) -> u32 {
-    if style == FULL {
+fn share(seed: u32, style: Kind, n: u32, left: u32, period: u32) -> u32 {
+    if style == Kind::Full {
         return 4096;
     }
-    if style == WHOLE {
-        if n == 15 {
-            return left;
-        }
+    if style == Kind::Whole && n == 15 {
+        return left;
     }
     amount(
         seed,
@@ -190,13 +161,12 @@ fn part(seed: u32, n: u32, most: u32) -> u32 {
 // The plan with domain n + 1, of these numbers, where so much is for writebacks of what it reserves in all; in every fourth
 // domain this is its W too.
 fn with_share(p: Plan, n: u32, seed: u32, all: u32, r: u32, w: u32) -> Plan {
-    let most = if w < all { w } else { all };
-    let v = part(seed, n, most);
+    let v = part(seed, n, w.min(all));
     let capped = draw::upto(seed, n.wrapping_add(900), 3) == 0;
     with_numbers(
         p,
         n,
-        if v <= all { all - v } else { 0 },
+        all.saturating_sub(v),
         r,
         if capped { v } else { w },
         v,
@@ -212,29 +182,29 @@ fn is_marked(seed: u32, n: u32) -> bool {
     }
 }
 
-fn with_domain(d: Draft, seed: u32, style: u32, n: u32) -> Draft {
+fn with_domain(d: Draft, seed: u32, style: Kind, n: u32) -> Draft {
     if left_out(seed, style, n) {
         return d;
     }
     let left = d.left;
     let p = d.plan;
-    let period = wide(p.period);
+    let period = u32::from(p.period);
     let all = share(seed, style, n, left, period);
     let r = amount(seed, n.wrapping_add(300), period);
     let w = amount(seed, n.wrapping_add(400), period);
     Draft {
         plan: with_mark(with_share(p, n, seed, all, r, w), n, is_marked(seed, n)),
-        left: if all <= left { left - all } else { 0 },
+        left: left.saturating_sub(all),
     }
 }
 
-pub fn drawn(seed: u32, style: u32) -> Plan {
+pub fn drawn(seed: u32, style: Kind) -> Plan {
     drawn_in(seed, style, drawn_period(seed, style))
 }
 
 // A plan of the period given.
-pub fn drawn_in(seed: u32, style: u32, period: u32) -> Plan {
-    let start = with_period(nothing(), period);
+pub fn drawn_in(seed: u32, style: Kind, period: u32) -> Plan {
+    let start = with_period(plan::no_domains(0), period);
     let mut d = Draft {
         plan: start,
         left: period,
@@ -248,9 +218,13 @@ pub fn drawn_in(seed: u32, style: u32, period: u32) -> Plan {
 // Sixteen domains whose reservations sum to P, to P + 1, or to 65,536.
 pub fn summed(seed: u32, case: u32) -> Plan {
     match case % 3 {
-        0 => drawn(seed, WHOLE),
-        1 => with_one_more(drawn(seed, WHOLE), draw::upto(seed, 4, 15) * 6, case / 3),
-        _ => drawn(seed, FULL),
+        0 => drawn(seed, Kind::Whole),
+        1 => with_one_more(
+            drawn(seed, Kind::Whole),
+            draw::upto(seed, 4, 15) * 6,
+            case / 3,
+        ),
+        _ => drawn(seed, Kind::Full),
     }
 }
 

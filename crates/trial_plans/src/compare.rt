@@ -2,95 +2,74 @@
 ghost use Rattle.std.specs.Prelude.{◌<◌};
 
 use model_plans::{Answer, Sums, Told};
-use plan::{Plan, Reading, Writing};
-use trial_kit::tally::{Verdict, both};
+use plan::{Plan, Refused};
+use trial_kit::tally::Verdict;
 use trial_kit::{bytes, values};
 
 // The bytes of the buffers that plans are written to.
 pub const BUFFER: u32 = 320;
 
-fn wide8(x: u8) -> u32 {
-    x as u32
-}
-
-fn all3(a: bool, b: bool, c: bool) -> bool {
-    both(both(a, b), c)
-}
-
-pub fn same_answers(a: Answer, b: Answer) -> bool {
-    let words = a.domains;
-    let others = b.domains;
-    let refusal = both(a.number == b.number, a.place == b.place);
-    all3(
-        refusal,
-        a.period == b.period,
-        values::same_words(&words, &others),
-    )
-}
-
-pub fn same_sums(a: Sums, b: Sums) -> bool {
-    let told = a.told;
-    let others = b.told;
-    both(a.records == b.records, values::same_words(&told, &others))
-}
-
-// Whether the walk tells the same sums, after as many records.
-fn same_walk(file: &[u8]) -> bool {
-    let s = plan::sums_told(file);
-    let told = s.told;
-    let m = model_plans::sums(file);
-    let others = m.told;
-    let records = m.records as usize;
-    both(s.records == records, values::same_words(&told, &others))
-}
-
-// A reading of the library's in the model's form.
-fn answer(r: Reading) -> Answer {
-    let p = r.plan;
+// A plan that is accepted, in the model's form.
+fn accepted(p: Plan) -> Answer {
     let domains = values::words(p);
     Answer {
-        number: wide8(r.refused),
-        place: values::wide(r.place),
-        period: values::wide(p.period),
+        number: 0,
+        place: 0,
+        period: u32::from(p.period),
         domains,
     }
 }
 
-fn same_writing(w: Writing, t: Told) -> bool {
-    let bytes = t.bytes as usize;
-    all3(
-        wide8(w.refused) == t.number,
-        values::wide(w.place) == t.place,
-        w.bytes == bytes,
-    )
+// A refusal in the model's form.
+fn refused(number: u32, place: u32) -> Answer {
+    Answer {
+        number,
+        place,
+        period: 0,
+        domains: [0; 96],
+    }
 }
 
-fn same_check(p: Plan, period: u32, domains: [u32; 96]) -> bool {
-    let r = plan::check(p);
-    let t = model_plans::check(period, domains);
-    all3(
-        wide8(r.refused) == t.number,
-        values::wide(r.place) == t.place,
-        t.bytes == 0,
-    )
+// A reading of the library's in the model's form.
+fn answer(r: Result<Plan, Refused>) -> Answer {
+    match r {
+        Ok(p) => accepted(p),
+        Err(e) => refused(u32::from(e.fault.number()), u32::from(e.place)),
+    }
+}
+
+// The bytes written, or the refusal, in the model's form.
+fn told(w: Result<usize, Refused>) -> Told {
+    match w {
+        Ok(bytes) => Told {
+            number: 0,
+            place: 0,
+            bytes: u32::try_from(bytes).unwrap_or(u32::MAX),
+        },
+        Err(e) => Told {
+            number: u32::from(e.fault.number()),
+            place: u32::from(e.place),
+            bytes: 0,
+        },
+    }
+}
+
+// The sums that the library's walk tells, in the model's form.
+fn sums(file: &[u8]) -> Sums {
+    let s = plan::sums_told(file);
+    let told = s.told;
+    Sums {
+        records: u32::try_from(s.records).unwrap_or(u32::MAX),
+        told,
+    }
 }
 
 // What reading back a plan that was written has to answer: the plan, or the refusal of writing.
-fn expected(t: Told, period: u32, domains: [u32; 96]) -> Answer {
+fn due(t: Told, p: Plan) -> Answer {
     if t.number == 0 {
-        Answer {
-            number: 0,
-            place: 0,
-            period,
-            domains,
-        }
+        accepted(p)
     } else {
-        Answer {
-            number: t.number,
-            place: t.place,
-            period: 0,
-            domains: [0; 96],
-        }
+        refused(t.number, t.place)
     }
 }
 
@@ -98,107 +77,48 @@ fn expected(t: Told, period: u32, domains: [u32; 96]) -> Answer {
 pub fn write_over(file: &mut [u8], p: Plan) -> u32
     ensures { result < 64 }
 {
-    let w = plan::write(p, file);
-    (w.bytes / 16 % 64) as u32
-}
-
-fn library_writes(p: Plan, buffer: &mut [u8], size: usize) -> Writing {
-    let lent = bytes::least(size, buffer.len());
-    plan::write(p, &mut buffer[0..lent])
-}
-
-fn model_writes(period: u32, domains: [u32; 96], buffer: &mut [u8], size: usize) -> Told {
-    let lent = bytes::least(size, buffer.len());
-    model_plans::write(period, domains, &mut buffer[0..lent])
-}
-
-fn library_returns(p: Plan, buffer: &mut [u8], size: usize) -> Reading {
-    let lent = bytes::least(size, buffer.len());
-    plan::write_and_read(p, &mut buffer[0..lent])
-}
-
-// What the model reads in the first bytes of a buffer.
-fn model_reads(buffer: &[u8], size: usize) -> Answer {
-    let first = bytes::least(size, buffer.len());
-    model_plans::read(&buffer[0..first])
-}
-
-// Whether the plan comes back from what the library wrote, where it was not refused.
-fn comes_back(buffer: &[u8; 320], t: Told, want: Answer) -> bool {
-    if t.number == 0 {
-        same_answers(model_reads(buffer, t.bytes as usize), want)
-    } else {
-        true
-    }
+    (plan::write(p, file).unwrap_or(0) / 16 % 64) as u32
 }
 
 fn filled(seed: u32) -> [u8; 320] {
     let mut buffer = [0u8; 320];
-    bytes::fill(&mut buffer, BUFFER, seed, bytes::ANY);
+    bytes::fill(&mut buffer, BUFFER, seed, bytes::Kind::Any);
     buffer
 }
 
-// Writing, into equal buffers of which the first bytes are lent.
-fn written(p: Plan, domains: [u32; 96], size: usize, seed: u32) -> Verdict {
-    let mut a = filled(seed);
-    let mut b = filled(seed);
-    let period = values::wide(p.period);
-    let w = library_writes(p, &mut a, size);
-    let t = model_writes(period, domains, &mut b, size);
-    let back = comes_back(&a, t, expected(t, period, domains));
+fn same_check(p: Plan) -> bool {
+    let m = model_plans::check(u32::from(p.period), values::words(p));
+    told(plan::check(p).map(|()| 0)) == m
+}
+
+// A plan held as a value: checked, written and read back, into equal buffers of which so many bytes are lent.
+pub fn value(p: Plan, size: u32, seed: u32) -> Verdict {
+    let lent = size.min(BUFFER) as usize;
+    let mut written = filled(seed);
+    let mut returned = filled(seed);
+    let mut model = filled(seed);
+    let w = plan::write(p, &mut written[..lent]);
+    let r = plan::write_and_read(p, &mut returned[..lent]);
+    let t = model_plans::write(u32::from(p.period), values::words(p), &mut model[..lent]);
+    let back = t.number != 0
+        || model_plans::read(&written[..t.bytes.min(BUFFER) as usize]) == due(t, p);
+    let same_buffers = written == model && returned == model;
     Verdict {
         number: t.number,
-        same: all3(same_writing(w, t), a == b, back),
-    }
-}
-
-// Writing and reading back, in the same way.
-fn returned(p: Plan, domains: [u32; 96], size: usize, seed: u32) -> bool {
-    let mut a = filled(seed);
-    let mut b = filled(seed);
-    let period = values::wide(p.period);
-    let r = library_returns(p, &mut a, size);
-    let t = model_writes(period, domains, &mut b, size);
-    both(
-        same_answers(answer(r), expected(t, period, domains)),
-        a == b,
-    )
-}
-
-// A plan held as a value: checked, written and read back, with so many bytes lent.
-pub fn value(p: Plan, size: u32, seed: u32) -> Verdict {
-    let domains = values::words(p);
-    let lent = size as usize;
-    let w = written(p, domains, lent, seed);
-    let checked = same_check(p, values::wide(p.period), domains);
-    Verdict {
-        number: w.number,
-        same: all3(checked, w.same, returned(p, domains, lent, seed)),
+        same: same_check(p) && told(w) == t && answer(r) == due(t, p) && same_buffers && back,
     }
 }
 
 // A file: read by both rules and walked, and where the earlier rule takes it, the plan written and read back. Whether the model
 // answers as is stated or known of the file stands beside.
 pub fn file(file: &[u8], seed: u32, holds: bool) -> Verdict {
-    let a = model_plans::read(file);
-    let e = model_plans::read_with_leftovers(file);
-    let r = plan::read_with_leftovers(file);
-    let readings = both(
-        same_answers(answer(plan::read(file)), a),
-        same_answers(answer(r), e),
-    );
-    let same = all3(readings, same_walk(file), holds);
-    if e.number == 0 {
-        let p = r.plan;
-        let back = value(p, BUFFER, seed);
-        Verdict {
-            number: a.number,
-            same: both(same, back.same),
-        }
-    } else {
-        Verdict {
-            number: a.number,
-            same,
-        }
+    let read = model_plans::read(file);
+    let earlier = plan::read_with_leftovers(file);
+    let readings = answer(plan::read(file)) == read
+        && answer(earlier) == model_plans::read_with_leftovers(file);
+    let back = earlier.map_or(true, |p| value(p, BUFFER, seed).same);
+    Verdict {
+        number: read.number,
+        same: holds && readings && sums(file) == model_plans::sums(file) && back,
     }
 }

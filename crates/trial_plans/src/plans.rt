@@ -1,28 +1,28 @@
 // The plan values of each kind, and the buffers lent for them.
+use super::cases::Case;
 use super::compare;
 use plan::Plan;
 use trial_kit::{plans, values};
 
 // The plan of a case of the kinds 16 to 22, 27 and 29; those of 16 and 22 are accepted.
-pub fn made(kind: u32, case: u32, seed: u32) -> Plan {
-    let way = match kind {
+pub fn made(c: Case) -> Plan {
+    let way = match c.kind {
         27 => 6,
         29 => 7,
-        _ => kind.wrapping_sub(17),
+        kind => kind.wrapping_sub(17),
     };
-    plans::made(way, case, seed)
+    plans::made(way, c.number, c.seed)
 }
 
 // The bytes that a plan needs, or 0 where it is refused.
 fn needed(p: Plan) -> u32 {
     let mut whole = [0u8; 320];
-    let t = model_plans::write(values::wide(p.period), values::words(p), &mut whole);
-    t.bytes
+    model_plans::write(u32::from(p.period), values::words(p), &mut whole).bytes
 }
 
-fn short(p: Plan, case: u32) -> u32 {
+fn short(p: Plan, number: u32) -> u32 {
     let bytes = needed(p);
-    match case % 7 {
+    match number % 7 {
         0 => 0,
         1 => 15,
         2 => 16,
@@ -34,10 +34,10 @@ fn short(p: Plan, case: u32) -> u32 {
 }
 
 // How much of the buffer is lent: all of it in kind 16, and else each of the lengths around what is needed.
-pub fn lent(p: Plan, kind: u32, case: u32) -> u32 {
-    if kind == 16 {
+pub fn lent(p: Plan, c: Case) -> u32 {
+    if c.kind == 16 {
         compare::BUFFER
     } else {
-        short(p, case)
+        short(p, c.number)
     }
 }

@@ -82,10 +82,6 @@ pub fn kind_line(rt: &impl Print, t: Tally, kind: u32) -> io::Result<()> {
 // The refusals, the total, and where something differed its first kind and case.
 pub fn last_lines(rt: &impl Print, t: Tally) -> io::Result<()> {
     report::told_lines(rt, t, &[1, 2, 3, 4, 5, 6, 7, 8, 9, 10, 11, 12, 51])?;
-    if t.alldiffer != 0 {
-        print!(rt; "first difference: ")?;
-        say_name(rt, t.firstkind)?;
-        println!(rt; ", case {}", t.firstcase)?;
-    }
+    report::first_line(rt, t, |kind| say_name(rt, kind))?;
     report::total_line(rt, t)
 }

@@ -7,24 +7,38 @@ use trial_kit::lines::say_nth;
 use trial_kit::tally::{Tally, Verdict};
 use trial_kit::{bytes, counts, tally};
 
-// The counts are lent. Ten rows of 17 say after how many records, 0 to 16, the walks ended: with 4 to 9 and 11, one row each,
-// at the chain's end, there with a leftover, and before it began. Behind the rows stand other counts, in the order of their
-// names below.
-const END: u32 = 7;
+// Where a walk ended, in the order of the printed rows: with 4 to 9 or 11, at the chain's end, there with a leftover, or before
+// it began.
+#[derive(Clone, Copy)]
+enum Ended {
+    NoRecord,
+    RecordAgain,
+    NoNumber,
+    NumberAgain,
+    Unlisted,
+    AbovePeriod,
+    AboveCap,
+    AtEnd,
+    AtLeftover,
+    Unbegun,
+}
 
-const LEFT: u32 = 8;
+// What the last sum is, in the order of the printed rows: above P where the walk was refused on its way, and at the chain's end
+// P, P + 1, 65,536, or another number or none.
+#[derive(Clone, Copy)]
+enum LastSum {
+    Above,
+    Whole,
+    More,
+    Most,
+    Other,
+}
 
+// The counts are lent. Ten rows of 17 say after how many records, 0 to 16, the walks ended. Behind them stand how many sums were
+// compared, and the counts of the last sums.
 const SUMS: usize = 170;
 
-const ABOVE: usize = 171;
-
-const WHOLE: usize = 172;
-
-const MORE: usize = 173;
-
-const MOST: usize = 174;
-
-const OTHER: usize = 175;
+const LAST: usize = 171;
 
 // Those of plan values, which `writes` counts, of marks, which `marks` counts, and of leftovers, which `found` counts.
 pub const WRITES: usize = 176;
@@ -33,66 +47,72 @@ pub const MARKS: usize = 185;
 
 pub const LEFTOVERS: usize = 191;
 
-// No count.
-const NONE: usize = 230;
+// A walk compared: how many records were taken, where it ended, and what its last sum is where that is counted.
+#[derive(Clone, Copy)]
+struct Walk {
+    records: u32,
+    ended: Ended,
+    last: Option<LastSum>,
+}
 
-// A case compared: how many records were taken, the count of where the walk ended, and that of its sums.
+// A case compared; a plan value has no walk.
 #[derive(Clone, Copy)]
 pub struct Outcome {
     pub verdict: Verdict,
-    pub records: u32,
-    pub end: usize,
-    pub sums: usize,
+    walk: Option<Walk>,
 }
 
-// The row of a refusal.
-fn row_of(number: u32) -> u32
-    ensures { result < 10 }
-{
+fn end_of(number: u32) -> Ended {
     match number {
-        0 | 10 => END,
-        12 => LEFT,
-        4..=9 => number - 4,
-        11 => 6,
-        _ => 9,
+        0 | 10 => Ended::AtEnd,
+        12 => Ended::AtLeftover,
+        4 => Ended::NoRecord,
+        5 => Ended::RecordAgain,
+        6 => Ended::NoNumber,
+        7 => Ended::NumberAgain,
+        8 => Ended::Unlisted,
+        9 => Ended::AbovePeriod,
+        11 => Ended::AboveCap,
+        _ => Ended::Unbegun,
     }
 }
 
-// The count of a walk's sums, of which the last is given: they never fall, so that it is above P where any is.
-fn sums_of(row: u32, last: u32, period: u32) -> usize
+// What a walk's last sum is: sums never fall, so that it is above P where any is.
+fn last_sum(ended: Ended, last: u32, period: u32) -> Option<LastSum>
     requires { period < 65536 }
 {
-    match row {
-        END | LEFT => last_of(last, period),
-        _ => if last > period { ABOVE } else { NONE },
+    match ended {
+        Ended::AtEnd | Ended::AtLeftover => Some(at_end(last, period)),
+        _ => (last > period).then_some(LastSum::Above),
     }
 }
 
-// The count of a last sum at the chain's end.
-fn last_of(last: u32, period: u32) -> usize
+// A last sum at the chain's end.
+fn at_end(last: u32, period: u32) -> LastSum
     requires { period < 65536 }
 {
-    if last == period {
-        return WHOLE;
+    match last {
+        _ if last == period => LastSum::Whole,
+        _ if last == period + 1 => LastSum::More,
+        65536 => LastSum::Most,
+        _ => LastSum::Other,
     }
-    if last == period + 1 {
-        return MORE;
-    }
-    if last == 65536 { MOST } else { OTHER }
 }
 
 // A file that was compared. Where no record was taken, the sum read is the sixteenth, a zero.
 pub fn of_file(file: &[u8], v: Verdict) -> Outcome {
     let m = model_plans::sums(file);
     let told = m.told;
-    let k = m.records % 17;
-    let last = told[((k + 15) % 16) as usize];
-    let row = row_of(v.number);
+    let records = m.records % 17;
+    let last = told[((records + 15) % 16) as usize];
+    let ended = end_of(v.number);
     Outcome {
         verdict: v,
-        records: k,
-        end: (17 * row + k) as usize,
-        sums: sums_of(row, last, bytes::pair(file, 0, 0)),
+        walk: Some(Walk {
+            records,
+            ended,
+            last: last_sum(ended, last, bytes::pair(file, 0, 0)),
+        }),
     }
 }
 
@@ -100,19 +120,25 @@ pub fn of_file(file: &[u8], v: Verdict) -> Outcome {
 pub fn of_value(v: Verdict) -> Outcome {
     Outcome {
         verdict: v,
-        records: 0,
-        end: NONE,
-        sums: NONE,
+        walk: None,
+    }
+}
+
+fn count_walk(w: Walk, seen: &mut [u32]) {
+    let after = (w.records % 17) as usize;
+    counts::raise(seen, SUMS, w.records);
+    counts::raise(seen, 17 * w.ended as usize + after, 1);
+    if let Some(last) = w.last {
+        counts::raise(seen, LAST + last as usize, 1);
     }
 }
 
 // The tally and the counts with a case more.
 pub fn counted(t: Tally, kind: u32, case: u32, o: Outcome, seen: &mut [u32]) -> Tally {
-    let v = o.verdict;
-    counts::raise(seen, SUMS, o.records);
-    counts::raise(seen, o.end, 1);
-    counts::raise(seen, o.sums, 1);
-    tally::counted(t, kind, case, v)
+    if let Some(w) = o.walk {
+        count_walk(w, seen);
+    }
+    tally::counted(t, kind, case, o.verdict)
 }
 
 // The name of a row, or of a count behind them.

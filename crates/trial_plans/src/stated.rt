@@ -21,18 +21,18 @@ use super::{compare, report, seen};
 use model_plans::{Answer, Sums, words};
 use std::io;
 use trial_kit::given::put_in_file;
-use trial_kit::tally::{Tally, Verdict, both};
-use trial_kit::{bytes, files, lines, tally, values};
+use trial_kit::tally::{Tally, Verdict};
+use trial_kit::{lines, tally, values};
 
 // The kind of all stated cases.
 const STATED: u32 = 0;
 
-// Where the reader stands: the case's number and where its name begins, the bytes so far of the plan file, and what is due:
+// Where the reader stands: the case's number and the text from its line on, the bytes so far of the plan file, and what is due:
 // the period and the words of a plan, and sums.
 #[derive(Clone, Copy)]
-struct Stand {
+struct Stand<'a> {
     case: u32,
-    named: usize,
+    named: &'a [u8],
     size: usize,
     period: u32,
     domains: [u32; 96],
@@ -40,7 +40,7 @@ struct Stand {
 }
 
 // A stand with this period due, no domains and no sums.
-fn begun(case: u32, named: usize, size: usize, period: u32) -> Stand {
+fn begun<'a>(case: u32, named: &'a [u8], size: usize, period: u32) -> Stand<'a> {
     Stand {
         case,
         named,
@@ -54,133 +54,118 @@ fn begun(case: u32, named: usize, size: usize, period: u32) -> Stand {
     }
 }
 
-// A domain more, planned or not.
-fn with_domain(p: Stand, given: &[u8], at: usize, planned: u32) -> Stand {
-    let mut after = p;
-    let domains = p.domains;
-    let n = lines::small(given, at, 7, 2);
-    let mut next = words::with_domain(
-        domains,
-        n,
-        lines::small(given, at, 10, 5),
-        lines::small(given, at, 16, 5),
-        lines::small(given, at, 22, 5),
-        lines::small(given, at, 28, 5),
-    );
-    let flag = ((n + 15) % 16 * 6) as usize;
-    next[flag] = planned;
-    after.domains = next;
-    after
+// The same stand with a plan of this period due, and nothing else.
+fn anew<'a>(p: Stand<'a>, period: u32) -> Stand<'a> {
+    begun(p.case, p.named, p.size, period)
 }
 
-fn with_mark(p: Stand, domain: u32) -> Stand {
-    let mut after = p;
-    let domains = p.domains;
-    let marked = words::with_mark(domains, domain, 1);
-    after.domains = marked;
-    after
+// A domain more, planned or not.
+fn with_domain<'a>(p: Stand<'a>, text: &[u8], planned: bool) -> Stand<'a> {
+    let n = lines::small(text, 0, 7, 2);
+    let mut domains = words::with_domain(
+        p.domains,
+        n,
+        lines::small(text, 0, 10, 5),
+        lines::small(text, 0, 16, 5),
+        lines::small(text, 0, 22, 5),
+        lines::small(text, 0, 28, 5),
+    );
+    domains[((n + 15) % 16 * 6) as usize] = u32::from(planned);
+    Stand { domains, ..p }
+}
+
+fn with_mark<'a>(p: Stand<'a>, domain: u32) -> Stand<'a> {
+    let domains = words::with_mark(p.domains, domain, 1);
+    Stand { domains, ..p }
 }
 
 // A sum more. Of more than sixteen the count alone tells.
-fn with_sum(p: Stand, sum: u32) -> Stand {
-    let mut after = p;
-    let mut s = p.sums;
-    let k = (s.records % 16) as usize;
-    s.told[k] = sum;
-    s.records = tally::more(s.records);
-    after.sums = s;
-    after
-}
-
-fn with_size(p: Stand, size: usize) -> Stand {
-    let mut after = p;
-    after.size = size;
-    after
+fn with_sum<'a>(p: Stand<'a>, sum: u32) -> Stand<'a> {
+    let mut sums = p.sums;
+    sums.told[(sums.records % 16) as usize] = sum;
+    sums.records = tally::more(sums.records);
+    Stand { sums, ..p }
 }
 
 // The next case; its name is behind the word.
-fn next_case(p: Stand, at: usize, file: &mut [u8]) -> Stand {
-    bytes::fill(file, files::LONGEST, 0, bytes::ZEROS);
-    begun(tally::more(p.case), at.wrapping_add(5), 0, 0)
+fn next_case<'a>(p: Stand<'a>, text: &'a [u8], file: &mut [u8]) -> Stand<'a> {
+    file.fill(0);
+    begun(tally::more(p.case), text, 0, 0)
 }
 
 // The library writes the plan due over the plan file; one that is refused leaves every byte.
-fn written_over(p: Stand, file: &mut [u8]) -> Stand {
-    let domains = p.domains;
-    let size = bytes::least(p.size, file.len());
-    compare::write_over(&mut file[0..size], values::plan_of(p.period, domains));
-    begun(p.case, p.named, p.size, 0)
+fn written_over<'a>(p: Stand<'a>, file: &mut [u8]) -> Stand<'a> {
+    let size = p.size.min(file.len());
+    compare::write_over(&mut file[..size], values::plan_of(p.period, p.domains));
+    anew(p, 0)
 }
 
 // The stand after a line.
-fn stand_after(p: Stand, given: &[u8], at: usize, file: &mut [u8]) -> Stand {
-    match lines::byte(given, at) {
-        b'c' => next_case(p, at, file),
+fn stand_after<'a>(p: Stand<'a>, text: &'a [u8], file: &mut [u8]) -> Stand<'a> {
+    match lines::byte(text, 0) {
+        b'c' => next_case(p, text, file),
         b'o' => written_over(p, file),
-        b'r' | b'e' | b'w' | b'v' => begun(p.case, p.named, p.size, 0),
-        b'p' => begun(p.case, p.named, p.size, lines::small(given, at, 5, 5)),
-        b'd' => with_domain(p, given, at, 1),
-        b'b' => with_domain(p, given, at, 0),
-        b'm' => with_mark(p, lines::small(given, at, 5, 2)),
-        b't' => with_sum(p, (lines::number(given, at, 5, 7) % 4294967296) as u32),
-        b'f' | b'a' | b's' => with_size(p, put_in_file(file, p.size, given, at)),
+        b'r' | b'e' | b'w' | b'v' => anew(p, 0),
+        b'p' => anew(p, lines::small(text, 0, 5, 5)),
+        b'd' => with_domain(p, text, true),
+        b'b' => with_domain(p, text, false),
+        b'm' => with_mark(p, lines::small(text, 0, 5, 2)),
+        b't' => with_sum(p, (lines::number(text, 0, 5, 7) % 4294967296) as u32),
+        b'f' | b'a' | b's' => Stand {
+            size: put_in_file(file, p.size, text, 0),
+            ..p
+        },
         _ => p,
     }
 }
 
-// Whether the model's reading is as is due; the refusal stands at an offset of the line.
-fn reads(p: Stand, a: Answer, given: &[u8], at: usize, offset: usize) -> bool {
-    let domains = p.domains;
-    let due = Answer {
-        number: lines::small(given, at, offset, 2),
-        place: lines::small(given, at, offset.wrapping_add(3), 5),
+// What reading has to tell; the refusal stands at an offset of the line.
+fn due(p: Stand<'_>, text: &[u8], offset: usize) -> Answer {
+    Answer {
+        number: lines::small(text, 0, offset, 2),
+        place: lines::small(text, 0, offset.wrapping_add(3), 5),
         period: p.period,
-        domains,
-    };
-    compare::same_answers(a, due)
+        domains: p.domains,
+    }
 }
 
-// Whether the model tells the sums that are due.
-fn walks(p: Stand, file: &[u8]) -> bool {
-    let due = p.sums;
-    compare::same_sums(model_plans::sums(file), due)
-}
-
-fn holds(p: Stand, given: &[u8], at: usize, file: &[u8]) -> bool {
-    match lines::byte(given, at) {
-        b'r' => reads(p, model_plans::read(file), given, at, 5),
-        b'e' => reads(p, model_plans::read_with_leftovers(file), given, at, 8),
-        _ => walks(p, file),
+// Whether the model tells what is due.
+fn holds(p: Stand<'_>, text: &[u8], file: &[u8]) -> bool {
+    match lines::byte(text, 0) {
+        b'r' => model_plans::read(file) == due(p, text, 5),
+        b'e' => model_plans::read_with_leftovers(file) == due(p, text, 8),
+        _ => model_plans::sums(file) == p.sums,
     }
 }
 
 // The plan due, held as a value.
-fn value_compared(p: Stand, given: &[u8], at: usize) -> Outcome {
-    let domains = p.domains;
-    let told = model_plans::check(p.period, domains);
-    let v = compare::value(values::plan_of(p.period, domains), compare::BUFFER, p.case);
-    let as_due = both(
-        told.number == lines::small(given, at, 6, 2),
-        told.place == lines::small(given, at, 9, 5),
+fn value_compared(p: Stand<'_>, text: &[u8]) -> Outcome {
+    let told = model_plans::check(p.period, p.domains);
+    let v = compare::value(
+        values::plan_of(p.period, p.domains),
+        compare::BUFFER,
+        p.case,
     );
+    let as_due = told.number == lines::small(text, 0, 6, 2)
+        && told.place == lines::small(text, 0, 9, 5);
     seen::of_value(Verdict {
         number: v.number,
-        same: both(v.same, as_due),
+        same: v.same && as_due,
     })
 }
 
-fn compared(p: Stand, given: &[u8], at: usize, file: &[u8]) -> Outcome {
-    if lines::byte(given, at) == b'v' {
-        return value_compared(p, given, at);
+fn compared(p: Stand<'_>, text: &[u8], file: &[u8]) -> Outcome {
+    if lines::byte(text, 0) == b'v' {
+        return value_compared(p, text);
     }
-    let v = compare::file(file, p.case, holds(p, given, at, file));
+    let v = compare::file(file, p.case, holds(p, text, file));
     seen::of_file(file, v)
 }
 
 // The counts of a case are printed before the next begins.
-fn closed(rt: &impl Print, t: Tally, p: Stand, given: &[u8]) -> io::Result<Tally> {
+fn closed(rt: &impl Print, t: Tally, p: Stand<'_>) -> io::Result<Tally> {
     if p.case > 0 {
-        lines::say_line(rt, given, p.named)?;
+        lines::say_line(rt, p.named, 5)?;
         report::counts_line(rt, t)?;
     }
     Ok(tally::next_kind(t))
@@ -190,22 +175,18 @@ fn closed(rt: &impl Print, t: Tally, p: Stand, given: &[u8]) -> io::Result<Tally
 fn tally_after(
     rt: &impl Print,
     t: Tally,
-    p: Stand,
-    given: &[u8],
-    at: usize,
+    p: Stand<'_>,
+    text: &[u8],
     file: &[u8],
     seen: &mut [u32],
 ) -> io::Result<Tally> {
-    let size = bytes::least(p.size, file.len());
-    match lines::byte(given, at) {
-        b'c' => closed(rt, t, p, given),
-        b'r' | b'e' | b'w' | b'v' => Ok(seen::counted(
-            t,
-            STATED,
-            p.case,
-            compared(p, given, at, &file[0..size]),
-            seen,
-        )),
+    let size = p.size.min(file.len());
+    match lines::byte(text, 0) {
+        b'c' => closed(rt, t, p),
+        b'r' | b'e' | b'w' | b'v' => {
+            let outcome = compared(p, text, &file[..size]);
+            Ok(seen::counted(t, STATED, p.case, outcome, seen))
+        }
         _ => Ok(t),
     }
 }
@@ -214,14 +195,15 @@ fn tally_after(
 pub fn cases(rt: &impl Print, before: Tally, given: &[u8], seen: &mut [u32]) -> io::Result<Tally> {
     let mut file = [0u8; 1040];
     let mut t = before;
-    let mut p = begun(0, 0, 0, 0);
-    let mut at: usize = 0;
-    while at < given.len() {
-        let tally = tally_after(rt, t, p, given, at, &file, seen)?;
-        let stand = stand_after(p, given, at, &mut file);
+    let mut p = begun(0, given, 0, 0);
+    let mut text = given;
+    // No `for` over split lines: what is read behind the end of a short line is the next one's, as `lines` has it.
+    while !text.is_empty() {
+        let tally = tally_after(rt, t, p, text, &file, seen)?;
+        let stand = stand_after(p, text, &mut file);
         t = tally;
         p = stand;
-        at = lines::after_line(given, at);
+        text = lines::next_line(text);
     }
     Ok(t)
 }

@@ -1,10 +1,10 @@
 // The library and the model on one replay, or on one line.
 use super::pieces;
 use super::pieces::Parts;
-use model_replay::Ended;
+use model_replay::text::Text;
+use model_replay::{Ended, Form};
 use script::Line;
-use trial_kit::bytes::least;
-use trial_kit::tally::{Verdict, both};
+use trial_kit::tally::Verdict;
 use trial_scripts::cases::BUFFER;
 
 // What the model tells, the refusal and the periods closed, and whether the library does all as the model does.
@@ -15,92 +15,89 @@ pub struct Outcome {
     pub same: bool,
 }
 
-pub fn verdict(o: Outcome) -> Verdict {
-    Verdict {
-        number: o.number,
-        same: o.same,
+impl Outcome {
+    pub fn verdict(self) -> Verdict {
+        Verdict {
+            number: self.number,
+            same: self.same,
+        }
     }
 }
 
-fn library_writes(file: &[u8], script: &[u8], out: &mut [u8], size: usize) -> usize {
-    let lent = least(size, out.len());
-    script::replay(file, script, &mut out[0..lent])
+// A plan file and a script; how many bytes are lent for the text, out of a buffer filled so; and the parts that the script comes
+// in where it does not come whole.
+#[derive(Clone, Copy)]
+pub struct Replay<'a> {
+    pub file: &'a [u8],
+    pub script: &'a [u8],
+    pub lent: usize,
+    pub filled: u8,
+    pub parts: Parts,
 }
 
-// The same, with the script in parts.
-fn parts_write(file: &[u8], script: &[u8], out: &mut [u8], size: usize, p: Parts) -> usize {
-    let lent = least(size, out.len());
-    pieces::replayed(file, script, &mut out[0..lent], p)
-}
+impl Replay<'_> {
+    // What the library writes into a buffer of which the first bytes are lent.
+    fn written_whole(self, out: &mut [u8]) -> usize {
+        let lent = self.lent.min(out.len());
+        script::replay(self.file, self.script, &mut out[..lent])
+    }
 
-fn model_writes(file: &[u8], script: &[u8], out: &mut [u8], size: usize) -> Ended {
-    let lent = least(size, out.len());
-    model_replay::replay(file, script, &mut out[0..lent])
-}
+    // The same, with the script in parts.
+    fn written_in_parts(self, out: &mut [u8]) -> usize {
+        let lent = self.lent.min(out.len());
+        pieces::replayed(self.file, self.script, &mut out[..lent], self.parts)
+    }
 
-// Whether the library writes a text of so many bytes into a buffer filled as that of the text.
-fn library_agrees(
-    file: &[u8],
-    script: &[u8],
-    size: usize,
-    filled: u8,
-    text: &[u8; 16384],
-    bytes: usize,
-) -> bool {
-    let mut out = [filled; 16384];
-    let written = library_writes(file, script, &mut out, size);
-    both(written == bytes, out == *text)
-}
+    // What the model writes into it.
+    fn due(self, out: &mut [u8]) -> Ended {
+        let lent = self.lent.min(out.len());
+        model_replay::replay(self.file, self.script, &mut out[..lent])
+    }
 
-// The same, with the script in parts.
-fn parts_agree(
-    file: &[u8],
-    script: &[u8],
-    size: usize,
-    filled: u8,
-    p: Parts,
-    text: &[u8; 16384],
-    bytes: usize,
-) -> bool {
-    let mut out = [filled; 16384];
-    let written = parts_write(file, script, &mut out, size, p);
-    both(written == bytes, out == *text)
-}
+    // Whether the library writes a text of so many bytes into a buffer filled as that of the text.
+    fn whole_agrees(self, text: &[u8; BUFFER], bytes: usize) -> bool {
+        let mut out = [self.filled; BUFFER];
+        self.written_whole(&mut out) == bytes && out == *text
+    }
 
-// The whole output, of the script whole and in parts, into equal buffers of which the first bytes are lent.
-pub fn replayed(file: &[u8], script: &[u8], size: usize, filled: u8, p: Parts) -> Outcome {
-    let mut text = [filled; 16384];
-    let e = model_writes(file, script, &mut text, size);
-    Outcome {
-        number: e.number,
-        periods: (e.periods % 65536) as u32,
-        same: both(
-            library_agrees(file, script, size, filled, &text, e.bytes),
-            parts_agree(file, script, size, filled, p, &text, e.bytes),
-        ),
+    fn parts_agree(self, text: &[u8; BUFFER], bytes: usize) -> bool {
+        let mut out = [self.filled; BUFFER];
+        self.written_in_parts(&mut out) == bytes && out == *text
+    }
+
+    // The whole output, of the script whole and in parts.
+    pub fn outcome(self) -> Outcome {
+        let mut text = [self.filled; BUFFER];
+        let e = self.due(&mut text);
+        Outcome {
+            number: e.number,
+            periods: (e.periods % 65536) as u32,
+            same: self.whole_agrees(&text, e.bytes) && self.parts_agree(&text, e.bytes),
+        }
+    }
+
+    // The whole output of both, compared with a text that is stated.
+    pub fn outcome_as(self, due: &[u8]) -> Outcome {
+        let mut text = [self.filled; BUFFER];
+        let bytes = put_due(&mut text, due);
+        let o = self.outcome();
+        Outcome {
+            same: o.same && self.whole_agrees(&text, bytes),
+            ..o
+        }
     }
 }
 
-// The whole output of both, compared with a text that is stated.
-pub fn replayed_as(file: &[u8], script: &[u8], due: &[u8], filled: u8) -> Outcome {
-    let mut text = [filled; 16384];
-    let bytes = model_replay::text::put_text(&mut text, 0, due);
-    let o = replayed(file, script, BUFFER, filled, pieces::drawn(filled));
-    let as_due = library_agrees(file, script, BUFFER, filled, &text, bytes);
-    Outcome {
-        number: o.number,
-        periods: o.periods,
-        same: both(o.same, as_due),
-    }
+// Puts a text that is due, and answers its bytes.
+pub fn put_due(out: &mut [u8], due: &[u8]) -> usize {
+    let mut to = Text::from(out, 0);
+    to.text(due);
+    to.end()
 }
 
 // Whether the model reads a line as one of the two forms.
-fn taken(form: u32) -> bool {
-    if form == model_replay::SLOT {
-        true
-    } else {
-        model_replay::is_yield(form)
-    }
+fn taken(form: Form) -> bool {
+    form == model_replay::SLOT || model_replay::is_yield(form)
 }
 
 // Whether what the library read of a line is what the model read; offers it leaves untouched are those of before.
@@ -112,20 +109,19 @@ fn same_line(
     before: &[u8; 17],
 ) -> bool {
     match l {
-        Line::Slot => both(m.form == model_replay::SLOT, offers == own),
-        Line::Yield { domain, count } => both(
-            both(model_replay::is_yield(m.form), offers == before),
-            both(domain == m.domain, count == m.k),
-        ),
-        Line::Bad(number) => both(both(number == 41, offers == before), !taken(m.form)),
+        Line::Slot => m.form == model_replay::SLOT && offers == own,
+        Line::Yield { domain, count } => {
+            model_replay::is_yield(m.form) && offers == before && domain == m.domain && count == m.k
+        }
+        Line::Bad(number) => number == 41 && offers == before && !taken(m.form),
     }
 }
 
 // One line without its byte 10.
 pub fn line(text: &[u8], filled: u8) -> Outcome {
     let before = [filled; 17];
-    let mut offers = [filled; 17];
-    let mut own = [filled; 17];
+    let mut offers = before;
+    let mut own = before;
     let l = script::read_line(text, &mut offers);
     let m = model_replay::read_line(text, &mut own);
     Outcome {

@@ -2,13 +2,13 @@
 // files, scripts and files `ask` that are fixed by seeds, and prints what was compared.
 #![tactic(auto)]
 
-use asking::Reply;
-use compare::Outcome;
+use asking::Question;
+use compare::{Outcome, Replay};
 use model_calls::Cause;
 use pieces::Parts;
 use std::io;
 use trial_kit::tally::Tally;
-use trial_kit::{bytes, draw, read_full, tally};
+use trial_kit::{draw, read_full, tally};
 use trial_scripts::cases::Case;
 use trial_scripts::{asks, cases, files, scripts};
 
@@ -18,8 +18,10 @@ mod pieces;
 mod report;
 mod stated;
 
-// The most bytes of the text that states cases.
+// The most bytes of the text that states cases, and of a script.
 const GIVEN: usize = 65536;
+
+const SCRIPT: usize = 131072;
 
 fn parts_of(c: Case) -> Parts {
     if c.kind == cases::PLACES {
@@ -29,143 +31,119 @@ fn parts_of(c: Case) -> Parts {
     }
 }
 
-// The case's replay, or its line.
-fn compared(file: &[u8], script: &[u8], c: Case) -> Outcome {
-    let filled = draw::low(c.seed);
-    if c.kind == cases::LINES {
-        compare::line(script, filled)
-    } else {
-        compare::replayed(file, script, cases::lent(c), filled, parts_of(c))
-    }
-}
-
-// The case's question.
-fn asked(file: &[u8], script: &[u8], words: &[u64], c: Case) -> Reply {
-    let mut ask = [0u8; 16];
-    let size = asks::put(&mut ask, words, c, script.len());
-    let given = bytes::least(size, ask.len());
-    let lent = cases::lent(c);
-    asking::asked(
-        file,
-        &ask[0..given],
-        script,
-        lent,
-        draw::low(c.seed),
-        parts_of(c),
-    )
-}
-
-// Counts the cause that was told, by its sort.
-fn count(causes: &mut [u64], c: Cause) {
-    let k = model_calls::sort(c);
-    if k < causes.len() {
-        causes[k] = causes[k].wrapping_add(1);
-    }
-}
-
-// The case's questions, of which the last one's refusal is told.
-fn questions(file: &[u8], script: &[u8], words: &[u64], causes: &mut [u64], c: Case) -> Outcome {
-    let mut same = true;
-    let mut number: u32 = 0;
-    let most = asks::count(c.kind);
-    for k in 0..most {
-        let a = asked(file, script, words, asks::question(c, k));
-        let told = a.cause;
-        count(causes, told);
-        number = told.number;
-        same = tally::both(same, a.same);
-    }
-    Outcome {
-        number,
-        periods: 0,
-        same,
-    }
-}
-
-// The case's replay and its questions.
-fn tried(file: &[u8], script: &[u8], words: &[u64], causes: &mut [u64], c: Case) -> Outcome {
-    if c.kind == cases::LINES {
-        return compared(file, script, c);
-    }
-    let q = questions(file, script, words, causes, c);
-    if c.kind >= cases::QUESTIONS {
-        return q;
-    }
-    let mut o = compared(file, script, c);
-    o.same = tally::both(o.same, q.same);
-    o
-}
-
-fn try_case(script: &mut [u8], words: &mut [u64], causes: &mut [u64], c: Case) -> Outcome {
-    let mut file = [0u8; 1040];
-    let filebytes = bytes::least(files::put(&mut file, c), file.len());
-    let bytes = bytes::least(scripts::put(script, words, c), script.len());
-    tried(&file[0..filebytes], &script[0..bytes], words, causes, c)
-}
-
-// What was compared of a kind so far, and the periods closed.
+// What was compared so far, and the periods closed of the kind at hand; the script of a case; the words of its model's state,
+// behind which verdicts are counted; and the causes that were told, by their sorts.
 #[derive(Clone, Copy)]
-struct Kind {
+struct Trial {
     tally: Tally,
     periods: u32,
+    script: [u8; SCRIPT],
+    words: [u64; 483],
+    causes: [u64; 23],
 }
 
-fn with_case(k: Kind, script: &mut [u8], words: &mut [u64], causes: &mut [u64], c: Case) -> Kind {
-    let o = try_case(script, words, causes, c);
-    let t = k.tally;
-    Kind {
-        tally: tally::counted(t, c.kind, c.case, compare::verdict(o)),
-        periods: k.periods.wrapping_add(o.periods),
+impl Trial {
+    fn count_cause(&mut self, c: Cause) {
+        if let Some(told) = self.causes.get_mut(model_calls::sort(c)) {
+            *told = told.wrapping_add(1);
+        }
     }
-}
 
-fn try_kind(
-    rt: &impl Print,
-    names: &[u8],
-    before: Tally,
-    script: &mut [u8],
-    causes: &mut [u64],
-    kind: u32,
-) -> io::Result<Tally> {
-    let mut words = [0u64; 483];
-    let mut k = Kind {
-        tally: tally::next_kind(before),
-        periods: 0,
-    };
-    let most = cases::runs(kind);
-    for case in 0..most {
-        let next = with_case(k, script, &mut words, causes, cases::of(kind, case));
-        k = next;
+    // A case's replay, on a script of so many bytes.
+    fn replay<'a>(&'a self, file: &'a [u8], bytes: usize, c: Case) -> Replay<'a> {
+        Replay {
+            file,
+            script: &self.script[..bytes.min(SCRIPT)],
+            lent: cases::lent(c),
+            filled: draw::low(c.seed),
+            parts: parts_of(c),
+        }
     }
-    let t = k.tally;
-    report::kind_line(rt, names, t, kind, k.periods)?;
-    report::verdicts_line(rt, &words, kind)?;
-    Ok(t)
-}
 
-fn try_kinds(
-    rt: &impl Print,
-    names: &[u8],
-    before: Tally,
-    script: &mut [u8],
-    causes: &mut [u64],
-) -> io::Result<Tally> {
-    let mut t = before;
-    for kind in 0..cases::KINDS {
-        let next = try_kind(rt, names, t, script, causes, kind)?;
-        t = next;
+    // One of its questions.
+    fn reply(&self, file: &[u8], bytes: usize, c: Case) -> asking::Reply {
+        let mut ask = [0u8; 16];
+        let of = self.replay(file, bytes, c);
+        let size = asks::put(&mut ask, &self.words, c, of.script.len());
+        let question = Question {
+            ask: &ask[..size.min(16)],
+            of,
+        };
+        question.reply()
     }
-    Ok(t)
+
+    // The case's questions, of which the last one's refusal is told.
+    fn questions(&mut self, file: &[u8], bytes: usize, c: Case) -> Outcome {
+        let mut same = true;
+        let mut number: u32 = 0;
+        for k in 0..asks::count(c.kind) {
+            let a = self.reply(file, bytes, asks::question(c, k));
+            self.count_cause(a.cause);
+            number = a.cause.number;
+            same = same && a.same;
+        }
+        Outcome {
+            number,
+            periods: 0,
+            same,
+        }
+    }
+
+    // The case's line, or its replay and its questions.
+    fn outcome(&mut self, file: &[u8], bytes: usize, c: Case) -> Outcome {
+        if c.kind == cases::LINES {
+            let of = self.replay(file, bytes, c);
+            return compare::line(of.script, of.filled);
+        }
+        let q = self.questions(file, bytes, c);
+        if c.kind >= cases::QUESTIONS {
+            return q;
+        }
+        let o = self.replay(file, bytes, c).outcome();
+        Outcome {
+            same: o.same && q.same,
+            ..o
+        }
+    }
+
+    fn try_case(&mut self, c: Case) {
+        let mut file = [0u8; 1040];
+        let size = files::put(&mut file, c);
+        let bytes = scripts::put(&mut self.script, &mut self.words, c);
+        let o = self.outcome(&file[..size.min(1040)], bytes, c);
+        let tally = tally::counted(self.tally, c.kind, c.case, o.verdict());
+        self.tally = tally;
+        self.periods = self.periods.wrapping_add(o.periods);
+    }
+
+    fn try_kind(&mut self, rt: &impl Print, names: &[u8], kind: u32) -> io::Result<()> {
+        let fresh = tally::next_kind(self.tally);
+        self.tally = fresh;
+        self.periods = 0;
+        self.words = [0; 483];
+        for case in 0..cases::runs(kind) {
+            self.try_case(cases::of(kind, case));
+        }
+        report::kind_line(rt, names, self.tally, kind, self.periods)?;
+        report::verdicts_line(rt, &self.words, kind)
+    }
 }
 
 // The stated cases and those of all kinds, given the text that states them and names the kinds.
 fn try_all(rt: &impl Print, given: &[u8]) -> io::Result<()> {
-    let mut script = [0u8; 131072];
-    let before = stated::cases(rt, tally::start(), given, &mut script)?;
-    let mut causes = [0u64; 23];
-    let t = try_kinds(rt, given, before, &mut script, &mut causes)?;
-    report::causes_line(rt, &causes)?;
-    report::last_lines(rt, given, t)
+    let tally = stated::cases(rt, tally::start(), given)?;
+    let mut trial = Trial {
+        tally,
+        periods: 0,
+        script: [0; SCRIPT],
+        words: [0; 483],
+        causes: [0; 23],
+    };
+    for kind in 0..cases::KINDS {
+        trial.try_kind(rt, given, kind)?;
+    }
+    report::causes_line(rt, &trial.causes)?;
+    report::last_lines(rt, given, trial.tally)
 }
 
 fn main(rt: HostRuntime) -> io::Result<()> {

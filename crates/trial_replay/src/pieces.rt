@@ -31,7 +31,7 @@ pub fn at_place(place: u32) -> Parts {
 }
 
 // The first part has `first` bytes, each other is `step` bytes longer than the last; and `step` bytes of the buffer are asked to
-// be free for a line.
+// be free for a line. A `while`: `step_by` is no plainer, since the ends of the parts have to be ordered for what was used.
 fn fed(run: Run, script: &[u8], out: &mut [u8], first: usize, step: usize) -> usize
     requires sound { Sound run }
     requires used_value { run.used ≡ 0 }
@@ -54,7 +54,7 @@ pub fn replayed(file: &[u8], script: &[u8], out: &mut [u8], p: Parts) -> usize {
     fed(run, script, out, p.first as usize + 1, p.step as usize + 1)
 }
 
-// The search through such parts, of which the last is the script whole.
+// The search through such parts, of which the last is the script whole; a `while` as above.
 fn sought(search: Search, script: &[u8], first: usize, step: usize) -> Search
     requires sound_search { SoundSearch search }
     requires used_value { search.used ≡ 0 }

@@ -6,6 +6,7 @@ use trial_scripts::cases;
 use trial_scripts::lines::TOLD;
 
 // Where the name of a kind stands: the text given has the names in the order of the kinds, each behind the word `kind`.
+// A `while`: the place goes from line to line.
 fn name_of(given: &[u8], kind: u32) -> usize {
     let mut left = kind;
     let mut at: usize = 0;
@@ -43,27 +44,27 @@ pub fn kind_line(
     counts_line(rt, t, periods)
 }
 
-// The words from one on, and the line's end.
-fn say_row(rt: &impl Print, words: &[u64], from: usize) -> io::Result<()> {
-    for k in from..words.len() {
-        print!(rt; " {}", words[k] % 4294967296)?;
+// Counts, and the line's end.
+fn say_row(rt: &impl Print, counts: &[u64]) -> io::Result<()> {
+    for count in counts {
+        print!(rt; " {}", count % 4294967296)?;
     }
     println!(rt)
 }
 
 // How often each verdict was told in the slots of a kind's scripts, where these are rows.
-pub fn verdicts_line(rt: &impl Print, words: &[u64], kind: u32) -> io::Result<()> {
+pub fn verdicts_line(rt: &impl Print, words: &[u64; 483], kind: u32) -> io::Result<()> {
     if kind >= cases::ROWS {
         print!(rt; "verdicts 0 to 6 in these:")?;
-        say_row(rt, words, TOLD)?;
+        say_row(rt, &words[TOLD..])?;
     }
     Ok(())
 }
 
 // The causes told in the questions of all kinds, by their sorts from 1 on.
-pub fn causes_line(rt: &impl Print, causes: &[u64]) -> io::Result<()> {
+pub fn causes_line(rt: &impl Print, causes: &[u64; 23]) -> io::Result<()> {
     report::say_causes(rt)?;
-    say_row(rt, causes, 1)
+    say_row(rt, &causes[1..])
 }
 
 // The refusals, the total, and where something differed its first kind and case.
@@ -75,10 +76,10 @@ pub fn last_lines(rt: &impl Print, given: &[u8], t: Tally) -> io::Result<()> {
             1, 2, 3, 4, 5, 6, 7, 8, 9, 10, 11, 12, 21, 22, 23, 32, 33, 41, 61, 62, 63,
         ],
     )?;
-    if t.alldiffer != 0 {
-        print!(rt; "first difference: ")?;
-        lines::say_line(rt, given, name_of(given, t.firstkind))?;
-        println!(rt; ", case {}", t.firstcase)?;
-    }
+    report::first_line(
+        rt,
+        t,
+        |kind| lines::say_line(rt, given, name_of(given, kind)),
+    )?;
     report::total_line(rt, t)
 }

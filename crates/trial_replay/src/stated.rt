@@ -18,208 +18,179 @@
 //   why                                   the question; the file `ask` and the text due begin anew, and the script stays
 //   new                                   the script begins anew
 //   kind NAME                             no case: the name of a kind, in the order of the kinds
-use super::compare::Outcome;
-use super::{asking, compare, report};
-use model_replay::text;
+use super::asking::Question;
+use super::compare::{Outcome, Replay};
+use super::{pieces, report};
+use model_replay::text::Text;
 use std::io;
 use trial_kit::given::put_in_file;
 use trial_kit::tally::Tally;
-use trial_kit::{bytes, draw, lines, tally};
+use trial_kit::{draw, lines, tally};
+use trial_scripts::cases::BUFFER;
 use trial_scripts::lines::put_part;
 
 // The kind of all stated cases, behind the others.
 const STATED: u32 = 44;
 
-// The bytes so far of the plan file, the script, the file `ask` and the text due, where the case's name stands, its number, and the
-// periods that its replays closed.
+// A file, a script or a text of so many bytes at most, and how many it has.
+#[derive(Clone, Copy)]
+struct Buffer<const N: usize> {
+    bytes: [u8; N],
+    size: usize,
+}
+
+impl<const N: usize> Buffer<N> {
+    fn new() -> Buffer<N> {
+        Buffer {
+            bytes: [0; N],
+            size: 0,
+        }
+    }
+
+    fn given(&self) -> &[u8] {
+        &self.bytes[..self.size.min(N)]
+    }
+
+    // A line of the script, of the file `ask` or of the text due.
+    fn put(&mut self, given: &[u8], at: usize) {
+        let mut to = Text::from(&mut self.bytes, self.size);
+        put_line(&mut to, given, at);
+        let size = to.end();
+        self.size = size;
+    }
+}
+
+// What was compared so far; the plan file, the script, the file `ask` and the text due of the case at hand; where its name stands,
+// its number, and the periods that its replays closed.
 #[derive(Clone, Copy)]
 struct Stand {
-    file: usize,
-    script: usize,
-    ask: usize,
-    due: usize,
+    tally: Tally,
+    file: Buffer<1040>,
+    script: Buffer<131072>,
+    ask: Buffer<64>,
+    due: Buffer<4096>,
     named: usize,
     case: u32,
     periods: u32,
 }
 
 // The line behind its first two bytes.
-fn put_rest(to: &mut [u8], at: usize, given: &[u8], from: usize) -> usize {
+fn put_rest(to: &mut Text<'_>, given: &[u8], from: usize) {
     let end = lines::line_end(given, from);
-    put_part(to, at, given, from.wrapping_add(2), end)
+    put_part(to, given, from.wrapping_add(2), end);
 }
 
-fn put_line(to: &mut [u8], at: usize, given: &[u8], from: usize) -> usize {
-    let end = put_rest(to, at, given, from);
-    text::put_byte(to, end, 10)
-}
-
-// A line of the script so many times.
-fn put_times(script: &mut [u8], size: usize, given: &[u8], from: usize) -> usize {
-    let most = lines::small(given, from, 2, 4);
-    let mut at = size;
-    for k in 0..most {
-        at = put_line(script, at, given, from.wrapping_add(5));
+// So many times the line that stands behind some bytes more, and byte 10.
+fn put_whole(to: &mut Text<'_>, given: &[u8], from: usize, times: u32) {
+    for _ in 0..times {
+        put_rest(to, given, from);
+        to.byte(b'\n');
     }
-    at
 }
 
-// A line of the script, of the file `ask` or of the text due; answers the bytes it then has.
-fn put_in_text(to: &mut [u8], size: usize, given: &[u8], at: usize) -> usize {
+// A line of the script, of the file `ask` or of the text due.
+fn put_line(to: &mut Text<'_>, given: &[u8], at: usize) {
     match lines::byte(given, at) {
-        b'>' | b'?' | b'<' => put_line(to, size, given, at),
-        b'+' | b'/' => put_rest(to, size, given, at),
-        b'*' => put_times(to, size, given, at),
-        _ => text::put_byte(to, size, draw::low(lines::small(given, at, 5, 3))),
+        b'>' | b'?' | b'<' => put_whole(to, given, at, 1),
+        b'+' | b'/' => put_rest(to, given, at),
+        b'*' => put_whole(to, given, at.wrapping_add(5), lines::small(given, at, 2, 4)),
+        _ => to.byte(draw::low(lines::small(given, at, 5, 3))),
     }
 }
 
-// A line that makes the plan file, the script, the file `ask` or the text due.
-fn with_line(
-    p: Stand,
-    given: &[u8],
-    at: usize,
-    file: &mut [u8],
-    script: &mut [u8],
-    ask: &mut [u8],
-    due: &mut [u8],
-) -> Stand {
-    let mut after = p;
-    match lines::byte(given, at) {
-        b'f' | b'a' | b's' => after.file = put_in_file(file, p.file, given, at),
-        b'>' | b'*' | b'+' | b'b' => after.script = put_in_text(script, p.script, given, at),
-        b'n' => after.script = 0,
-        b'?' | b'/' | b'i' => after.ask = put_in_text(ask, p.ask, given, at),
-        b'<' => after.due = put_in_text(due, p.due, given, at),
-        _ => {}
+impl Stand {
+    fn replay(&self) -> Replay<'_> {
+        let filled = draw::low(self.case);
+        Replay {
+            file: self.file.given(),
+            script: self.script.given(),
+            lent: BUFFER,
+            filled,
+            parts: pieces::drawn(filled),
+        }
     }
-    after
-}
 
-fn replayed(p: Stand, file: &[u8], script: &[u8], due: &[u8]) -> Outcome {
-    let a = bytes::least(p.file, file.len());
-    let b = bytes::least(p.script, script.len());
-    let c = bytes::least(p.due, due.len());
-    compare::replayed_as(&file[0..a], &script[0..b], &due[0..c], draw::low(p.case))
-}
-
-fn asked(p: Stand, file: &[u8], script: &[u8], ask: &[u8], due: &[u8]) -> Outcome {
-    let a = bytes::least(p.file, file.len());
-    let b = bytes::least(p.script, script.len());
-    let c = bytes::least(p.ask, ask.len());
-    let d = bytes::least(p.due, due.len());
-    asking::asked_as(
-        &file[0..a],
-        &ask[0..c],
-        &script[0..b],
-        &due[0..d],
-        draw::low(p.case),
-    )
-}
-
-// Where the next replay or question of a case begins; the script of a question stays.
-fn after_run(p: Stand, periods: u32, script: usize) -> Stand {
-    let mut after = p;
-    after.script = script;
-    after.ask = 0;
-    after.due = 0;
-    after.periods = p.periods.wrapping_add(periods);
-    after
-}
-
-// Where the next case begins; its name is behind the word.
-fn next_case(p: Stand, at: usize) -> Stand {
-    Stand {
-        file: 0,
-        script: 0,
-        ask: 0,
-        due: 0,
-        named: at.wrapping_add(5),
-        case: tally::more(p.case),
-        periods: 0,
+    // A replay or a question, behind which the file `ask` and the text due begin anew.
+    fn count(&mut self, o: Outcome) {
+        let tally = tally::counted(self.tally, STATED, self.case, o.verdict());
+        self.tally = tally;
+        self.ask.size = 0;
+        self.due.size = 0;
+        self.periods = self.periods.wrapping_add(o.periods);
     }
-}
 
-// The tally and the stand after a line.
-#[derive(Clone, Copy)]
-struct Both {
-    tally: Tally,
-    stand: Stand,
-}
-
-// The counts of the case at hand are printed, and the next begins with zeros.
-fn case_line(
-    rt: &impl Print,
-    t: Tally,
-    p: Stand,
-    given: &[u8],
-    at: usize,
-    file: &mut [u8],
-) -> io::Result<Both> {
-    bytes::fill(file, 1040, 0, bytes::ZEROS);
-    if p.case > 0 {
-        lines::say_line(rt, given, p.named)?;
-        report::counts_line(rt, t, p.periods)?;
+    fn replay_line(&mut self) {
+        let o = self.replay().outcome_as(self.due.given());
+        self.count(o);
+        self.script.size = 0;
     }
-    Ok(Both {
-        tally: tally::next_kind(t),
-        stand: next_case(p, at),
-    })
-}
 
-fn line(
-    rt: &impl Print,
-    b: Both,
-    given: &[u8],
-    at: usize,
-    file: &mut [u8],
-    script: &mut [u8],
-    ask: &mut [u8],
-    due: &mut [u8],
-) -> io::Result<Both> {
-    let t = b.tally;
-    let p = b.stand;
-    match lines::byte(given, at) {
-        b'c' => case_line(rt, t, p, given, at, file),
-        b'r' => Ok(run_line(t, p, replayed(p, file, script, due), 0)),
-        b'w' => Ok(run_line(t, p, asked(p, file, script, ask, due), p.script)),
-        _ => Ok(Both {
-            tally: t,
-            stand: with_line(p, given, at, file, script, ask, due),
-        }),
+    // The script of a question stays.
+    fn question_line(&mut self) {
+        let question = Question {
+            ask: self.ask.given(),
+            of: self.replay(),
+        };
+        let o = question.outcome_as(self.due.given());
+        self.count(o);
     }
-}
 
-// A replay or a question, behind which the script has so many bytes.
-fn run_line(t: Tally, p: Stand, o: Outcome, script: usize) -> Both {
-    Both {
-        tally: tally::counted(t, STATED, p.case, compare::verdict(o)),
-        stand: after_run(p, o.periods, script),
+    // The counts of the case at hand are printed, and the next begins with zeros; its name is behind the word.
+    fn case_line(&mut self, rt: &impl Print, given: &[u8], at: usize) -> io::Result<()> {
+        if self.case > 0 {
+            lines::say_line(rt, given, self.named)?;
+            report::counts_line(rt, self.tally, self.periods)?;
+        }
+        let fresh = tally::next_kind(self.tally);
+        self.tally = fresh;
+        self.file = Buffer::new();
+        self.script.size = 0;
+        self.ask.size = 0;
+        self.due.size = 0;
+        self.named = at.wrapping_add(5);
+        self.case = tally::more(self.case);
+        self.periods = 0;
+        Ok(())
+    }
+
+    fn file_line(&mut self, given: &[u8], at: usize) {
+        let size = put_in_file(&mut self.file.bytes, self.file.size, given, at);
+        self.file.size = size;
+    }
+
+    fn line(&mut self, rt: &impl Print, given: &[u8], at: usize) -> io::Result<()> {
+        match lines::byte(given, at) {
+            b'c' => self.case_line(rt, given, at)?,
+            b'r' => self.replay_line(),
+            b'w' => self.question_line(),
+            b'f' | b'a' | b's' => self.file_line(given, at),
+            b'>' | b'*' | b'+' | b'b' => self.script.put(given, at),
+            b'n' => self.script.size = 0,
+            b'?' | b'/' | b'i' => self.ask.put(given, at),
+            b'<' => self.due.put(given, at),
+            _ => {}
+        }
+        Ok(())
     }
 }
 
 // All cases of the text. Its last line begins a case without a name, so that the one before is printed.
-pub fn cases(rt: &impl Print, before: Tally, given: &[u8], script: &mut [u8]) -> io::Result<Tally> {
-    let mut file = [0u8; 1040];
-    let mut ask = [0u8; 64];
-    let mut due = [0u8; 4096];
-    let mut b = Both {
+// A `while`: the place goes from line to line.
+pub fn cases(rt: &impl Print, before: Tally, given: &[u8]) -> io::Result<Tally> {
+    let mut stand = Stand {
         tally: before,
-        stand: Stand {
-            file: 0,
-            script: 0,
-            ask: 0,
-            due: 0,
-            named: 0,
-            case: 0,
-            periods: 0,
-        },
+        file: Buffer::new(),
+        script: Buffer::new(),
+        ask: Buffer::new(),
+        due: Buffer::new(),
+        named: 0,
+        case: 0,
+        periods: 0,
     };
     let mut at: usize = 0;
     while at < given.len() {
-        let next = line(rt, b, given, at, &mut file, script, &mut ask, &mut due)?;
-        b = next;
+        stand.line(rt, given, at)?;
         at = lines::after_line(given, at);
     }
-    Ok(b.tally)
+    Ok(stand.tally)
 }

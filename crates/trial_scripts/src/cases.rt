@@ -24,7 +24,7 @@ pub const LINES: u32 = 27;
 pub const BUFFER: usize = 16384;
 
 // A case and the number drawn for it; the run of cases that share a plan and its first lines, the number drawn for these, and
-// the plan's style.
+// the plan's style. A kind is a number and no enum: seeds are drawn from it, and names are lines.
 #[derive(Clone, Copy)]
 pub struct Case {
     pub kind: u32,
@@ -32,7 +32,7 @@ pub struct Case {
     pub seed: u32,
     pub run: u32,
     pub shared: u32,
-    pub style: u32,
+    pub style: styles::Kind,
 }
 
 // How many cases each kind has.
@@ -80,38 +80,38 @@ fn run_of(kind: u32, case: u32) -> u32 {
 }
 
 // Sixteen domains where there are yields to edit.
-fn style_of(kind: u32, run: u32) -> u32 {
+fn style_of(kind: u32, run: u32) -> styles::Kind {
     match kind {
-        0 | 5 | 11 | 32 => styles::SMALL,
-        2 | 3 | 7 | 30 => styles::NONE,
-        4 => styles::ONE,
-        28 => styles::MARKED,
+        0 | 5 | 11 | 32 => styles::Kind::Small,
+        2 | 3 | 7 | 30 => styles::Kind::None,
+        4 => styles::Kind::One,
+        28 => styles::Kind::Marked,
         43 => match run / 16 % 4 {
-            0 => styles::TIGHT,
-            1 => styles::CROWDED,
-            _ => styles::MARKED,
+            0 => styles::Kind::Tight,
+            1 => styles::Kind::Crowded,
+            _ => styles::Kind::Marked,
         },
-        6 | 34 => styles::MOST,
-        31 | 33 | 37 => styles::SHORT,
+        6 | 34 => styles::Kind::Most,
+        31 | 33 | 37 => styles::Kind::Short,
         35 | 38..=42 => if run % 2 == 0 {
-            styles::TIGHT
+            styles::Kind::Tight
         } else {
-            styles::WHOLE
+            styles::Kind::Whole
         },
-        8 => styles::SIXTEEN,
-        9 => styles::UNRESERVED,
-        10 | 15 | 16 | 17 => styles::WHOLE,
+        8 => styles::Kind::Sixteen,
+        9 => styles::Kind::Unreserved,
+        10 | 15 | 16 | 17 => styles::Kind::Whole,
         19 => if run / 25 % 2 == 0 {
-            styles::WHOLE
+            styles::Kind::Whole
         } else {
-            styles::LEAST
+            styles::Kind::Least
         },
         26 => if run % 3 == 0 {
-            styles::SIXTEEN
+            styles::Kind::Sixteen
         } else {
-            styles::LEAST
+            styles::Kind::Least
         },
-        _ => styles::LEAST,
+        _ => styles::Kind::Least,
     }
 }
 
@@ -120,17 +120,16 @@ pub fn of(kind: u32, case: u32) -> Case {
     Case {
         kind,
         case,
-        seed: draw::draw(std::num::wrapping_add_u32(kind, 2000), case),
+        seed: draw::draw(kind.wrapping_add(2000), case),
         run,
-        shared: draw::draw(std::num::wrapping_add_u32(kind, 3000), run),
+        shared: draw::draw(kind.wrapping_add(3000), run),
         style: style_of(kind, run),
     }
 }
 
 // The lines that are taken first.
 pub fn first_lines(c: Case) -> u32 {
-    let kind = c.kind;
-    match kind {
+    match c.kind {
         0..=3 | 29 | 30 => 6,
         6 => 6500,
         7 => 1500,
@@ -154,15 +153,14 @@ pub fn first_lines(c: Case) -> u32 {
 
 // In rows there are few yields or none.
 pub fn weights(c: Case) -> Weights {
-    let kind = c.kind;
     Weights {
         offers: 9,
-        writebacks: match kind {
+        writebacks: match c.kind {
             6 => 12,
             35 => 8,
             _ => 4,
         },
-        yields: match kind {
+        yields: match c.kind {
             11 => 10,
             43 => 5,
             32 => c.case / 16 % 2,
@@ -175,8 +173,7 @@ pub fn weights(c: Case) -> Weights {
 
 // The bytes lent for the text.
 pub fn lent(c: Case) -> usize {
-    let kind = c.kind;
-    match kind {
+    match c.kind {
         26 | 37 => (c.case % 700) as usize,
         42 => (c.case % 30) as usize,
         _ => BUFFER,
@@ -190,12 +187,12 @@ fn plan_of(c: Case) -> Plan {
 // Puts the plan into the file and answers its bytes.
 pub fn put_plan(file: &mut [u8], c: Case) -> usize {
     let p = plan_of(c);
-    let t = model_plans::write(values::wide(p.period), values::words(p), file);
+    let t = model_plans::write(u32::from(p.period), values::words(p), file);
     t.bytes as usize
 }
 
 // Opens the plan's state.
 pub fn open(s: &mut [u64], c: Case) {
     let p = plan_of(c);
-    model_calls::open(values::wide(p.period), values::words(p), s);
+    model_calls::open(u32::from(p.period), values::words(p), s);
 }

@@ -18,25 +18,27 @@ fn put_first(file: &mut [u8], c: Case) {
         bytes::put_record(
             file,
             0,
-            1 + draw::upto(c.seed, 71, 11),
-            draw::upto(c.seed, 72, 7),
-            0,
-            0,
-            0,
-            0,
+            [
+                1 + draw::upto(c.seed, 71, 11),
+                draw::upto(c.seed, 72, 7),
+                0,
+                0,
+                0,
+                0,
+            ],
         );
     }
 }
 
 // Bytes filled in a style.
-fn filled(file: &mut [u8], c: Case, style: u32) -> usize {
+fn filled(file: &mut [u8], c: Case, style: bytes::Kind) -> usize {
     bytes::fill(file, 144, c.seed, style);
     put_first(file, c);
     16 + 16 * draw::upto(c.seed, 73, 8) as usize
 }
 
 // The same, with zeros off the chain.
-fn cleared(file: &mut [u8], c: Case, style: u32) -> usize {
+fn cleared(file: &mut [u8], c: Case, style: bytes::Kind) -> usize {
     let size = filled(file, c, style);
     rest::clear(file);
     size
@@ -61,19 +63,18 @@ fn longer(file: &mut [u8], size: usize, c: Case) -> usize {
 // behind (29), and else as it is.
 pub fn put(file: &mut [u8], c: Case) -> usize {
     let size = cases::put_plan(file, c);
-    let kind = c.kind;
-    match kind {
+    match c.kind {
         0 => c.case as usize,
         1 => {
             spoil_byte(file, size, c);
             size
         }
-        2 => cleared(file, c, bytes::SMALL),
-        3 => cleared(file, c, bytes::ANY),
+        2 => cleared(file, c, bytes::Kind::Small),
+        3 => cleared(file, c, bytes::Kind::Any),
         26 => if c.run == 3 { 15 } else { size },
         29 => longer(file, size, c),
         38..=41 => if c.case % 11 == 0 { 15 } else { size },
-        30 => filled(file, c, bytes::SMALL),
+        30 => filled(file, c, bytes::Kind::Small),
         _ => size,
     }
 }

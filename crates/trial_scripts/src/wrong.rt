@@ -1,42 +1,72 @@
 // Lines with a byte edited, and lines of numbers that are not taken.
-use super::lines;
+ghost use Rattle.std.specs.Prelude.{◌<◌};
+
 use super::lines::Amount;
-use model_replay::text;
+use model_replay::text::Text;
 use trial_kit::{bytes, draw};
 
-// An edit of a line: the byte at a place is left out (0), has another put in before it (1), or is put to another (2).
+// What an edit does to a byte: it is left out, has another put in before it, or is put to another.
+#[derive(Clone, Copy, Debug, PartialEq, Eq)]
+pub enum Way {
+    LeftOut,
+    PutBefore,
+    Changed,
+}
+
+impl Way {
+    pub fn of(number: u32) -> Way {
+        match number {
+            0 => Way::LeftOut,
+            1 => Way::PutBefore,
+            _ => Way::Changed,
+        }
+    }
+}
+
+// An edit of the byte at a place of a line.
 #[derive(Clone, Copy)]
 pub struct Edit {
-    pub way: u32,
-    pub place: usize,
-    pub value: u8,
+    way: Way,
+    place: usize,
+    value: u8,
 }
 
-// One byte of a line, edited where it stands at the place.
-fn put_edited_byte(script: &mut [u8], at: usize, b: u8, k: usize, e: Edit) -> usize {
-    if k != e.place {
-        return text::put_byte(script, at, b);
-    }
-    if e.way == 0 {
-        return at;
-    }
-    let next = text::put_byte(script, at, e.value);
-    if e.way == 1 {
-        text::put_byte(script, next, b)
-    } else {
-        next
+impl Edit {
+    // Each of so many places in turn, and each value in turn.
+    pub fn of(way: Way, places: u32, case: u32) -> Edit
+        requires { 0 < places }
+    {
+        Edit {
+            way,
+            place: (case % places) as usize,
+            value: draw::low(case / places),
+        }
     }
 }
 
-// The first bytes of a line, edited.
-pub fn put_edited(script: &mut [u8], from: usize, line: &[u8], size: usize, e: Edit) -> usize {
-    let mut at = from;
-    let mut k: usize = 0;
-    while k < size {
-        at = put_edited_byte(script, at, bytes::get(line, k), k, e);
-        k += 1;
+impl Edit {
+    // A byte of a line, edited.
+    fn put(self, to: &mut Text<'_>, b: u8) {
+        match self.way {
+            Way::LeftOut => {}
+            Way::PutBefore => {
+                to.byte(self.value);
+                to.byte(b);
+            }
+            Way::Changed => to.byte(self.value),
+        }
     }
-    at
+}
+
+// A line, edited.
+pub fn put_edited(to: &mut Text<'_>, line: &[u8], e: Edit) {
+    for (k, &b) in line.iter().enumerate() {
+        if k == e.place {
+            e.put(to, b);
+        } else {
+            to.byte(b);
+        }
+    }
 }
 
 // A digit above 2 at any number.
@@ -73,15 +103,15 @@ pub fn spoil_offers(offers: &mut [u8], cause: u32, seed: u32) {
 pub fn spoiled_yield(y: Amount, claim: u32, cause: u32, seed: u32) -> Amount {
     let mut after = y;
     match cause % 5 {
-        0 => after.domain = 0,
-        1 => after.domain = 17,
-        2 => after.domain = 18 + draw::upto(seed, 64, 81),
+        0 => after.domain.value = 0,
+        1 => after.domain.value = 17,
+        2 => after.domain.value = 18 + draw::upto(seed, 64, 81),
         _ => {}
     }
     match cause / 5 % 5 {
-        0 => after.k = 0,
-        1 => after.k = 9999,
-        2 => after.k = claim % 9999 + 1,
+        0 => after.k.value = 0,
+        1 => after.k.value = 9999,
+        2 => after.k.value = claim % 9999 + 1,
         _ => {}
     }
     after

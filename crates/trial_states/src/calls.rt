@@ -1,19 +1,19 @@
 // A call with its arguments other than the state, and other than the plan at hand, which lies behind the state's words.
 
-// What a call is: a slot call, a yield, a plan handed in, or a plan opened.
-pub const SLOT: u8 = 0;
-
-pub const YIELD: u8 = 1;
-
-pub const HAND: u8 = 2;
-
-pub const OPEN: u8 = 3;
+// What a call is.
+#[derive(Clone, Copy, Debug, PartialEq, Eq)]
+pub enum Asks {
+    Slot,
+    Yield,
+    HandIn,
+    Open,
+}
 
 // A slot call has so many of the offers, and so many bytes lent, which hold `filled` before, and in `domain` the number whose
 // verdict is to be explained; a yield has a domain and k.
 #[derive(Clone, Copy)]
 pub struct Call {
-    pub what: u8,
+    pub asks: Asks,
     pub offers: [u8; 18],
     pub offered: usize,
     pub lent: usize,
@@ -25,7 +25,7 @@ pub struct Call {
 // Opening the plan at hand.
 pub fn opening() -> Call {
     Call {
-        what: OPEN,
+        asks: Asks::Open,
         offers: [0; 18],
         offered: 17,
         lent: 17,

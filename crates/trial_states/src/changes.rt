@@ -1,5 +1,6 @@
 // States changed in one number, in several, or in all: most no longer add up, and each line of that rule is broken alone.
 use super::{draws, estimates, forms, handing, sums};
+use regulator::State;
 use trial_kit::{bytes, draw, values};
 
 // The word of a column of the table below, for a domain: P, T, idle, best effort, stock; Q, R, W, V, claim, reserved,
@@ -20,21 +21,19 @@ fn word_of(column: usize, domain: usize) -> usize {
 fn shift(words: &mut [u64], k: usize, by: u64, sign: u8) {
     let x = forms::word(words, k);
     match sign {
-        b'+' => forms::put(words, k, std::num::wrapping_add_u64(x, by)),
-        b'-' => forms::put(words, k, std::num::wrapping_sub_u64(x, by)),
-        b'>' => forms::put(words, k, std::num::wrapping_add_u64(x, by % 131072 * 17)),
-        b'<' => forms::put(words, k, std::num::wrapping_sub_u64(x, by % 131072 * 17)),
+        b'+' => forms::put(words, k, x.wrapping_add(by)),
+        b'-' => forms::put(words, k, x.wrapping_sub(by)),
+        b'>' => forms::put(words, k, x.wrapping_add(by % 131072 * 17)),
+        b'<' => forms::put(words, k, x.wrapping_sub(by % 131072 * 17)),
         _ => (),
     }
 }
 
 // Moves a state by the row of signs that begins at a place.
 fn shift_by(words: &mut [u64], domain: usize, by: u64, rows: &[u8], from: usize) {
-    let mut column: usize = 0;
-    while column < 16 {
-        let sign = bytes::get(rows, std::num::wrapping_add_usize(from, column));
+    for column in 0..16 {
+        let sign = bytes::get(rows, from.wrapping_add(column));
         shift(words, word_of(column, domain), by, sign);
-        column += 1;
     }
 }
 
@@ -145,25 +144,27 @@ fn several(words: &mut [u64], way: u32, seed: u32) {
 
 // A fresh state whose plan has sixteen domains that reserve 4,096 each: they come to 65,536.
 fn put_full_plan(words: &mut [u64]) {
-    let mut s = forms::state_of(words);
-    let p = values::drawn(1, values::FULL);
-    let reservation = p.reservation;
-    let writebackreservation = p.writebackreservation;
+    let plan = values::drawn(1, values::Kind::Full);
+    let claim = plan.reservation;
+    let writebackclaim = plan.writebackreservation;
     let tracked = forms::nothing_tracked();
-    s.plan = p;
-    s.claim = reservation;
-    s.writebackclaim = writebackreservation;
-    s.reserved = [0; 16];
-    s.reclaimed = [0; 16];
-    s.yielded = [0; 16];
-    s.writebacks = [0; 16];
-    s.decided = 0;
-    s.idle = 0;
-    s.best = 0;
-    s.stock = 0;
-    s.steps = 0;
-    s.tracked = tracked;
-    forms::put_state(words, s);
+    let fresh = State {
+        plan,
+        claim,
+        writebackclaim,
+        reserved: [0; 16],
+        reclaimed: [0; 16],
+        yielded: [0; 16],
+        writebacks: [0; 16],
+        decided: 0,
+        idle: 0,
+        best: 0,
+        stock: 0,
+        steps: 0,
+        tracked,
+        ..forms::state_of(words)
+    };
+    forms::put_state(words, fresh);
 }
 
 // By how much numbers are moved: by one more than the claim, the stock, the decided or the idle slots lowered, or by any.
@@ -173,7 +174,7 @@ fn round_by(words: &[u64], which: u32, domain: usize, seed: u32) -> u64 {
         3 => 1 + forms::word(words, 5) % 65536,
         5 => 1 + forms::word(words, 1) % 65536,
         7 => 1 + forms::word(words, 3) % 65536,
-        _ => 1 + draw::upto(seed, 82, 65534) as u64,
+        _ => 1 + u64::from(draw::upto(seed, 82, 65534)),
     }
 }
 
@@ -208,7 +209,7 @@ fn steps_off(words: &mut [u64], seed: u32) {
         1 => left,
         _ => draw::upto(seed, 85, left),
     };
-    shift_in(words, 0, 0, idle as u64);
+    shift_in(words, 0, 0, u64::from(idle));
     sums::put_sum(words, draw::upto(seed, 80, 7));
 }
 
@@ -230,52 +231,47 @@ fn turn_off(turn: u64, x: u32) -> u64 {
     match x % 6 {
         0 => 17,
         1 => 18,
-        2 => std::num::wrapping_add_u64(turn, 65536),
-        3 => std::num::wrapping_add_u64(turn, 4294967296),
+        2 => turn.wrapping_add(65536),
+        3 => turn.wrapping_add(4294967296),
         4 => 18446744073709551615,
-        _ => (x / 16 % 17) as u64,
+        _ => u64::from(x / 16 % 17),
     }
 }
 
 // A number put off: by one, to 0, to the most it holds, or to a drawn one.
 fn number_off(x: u64, drawn: u32) -> u64 {
     match drawn % 8 {
-        0 | 1 | 2 => std::num::wrapping_add_u64(x, 1),
-        3 | 4 => std::num::wrapping_sub_u64(x, 1),
+        0 | 1 | 2 => x.wrapping_add(1),
+        3 | 4 => x.wrapping_sub(1),
         5 => 0,
         6 => 65535,
-        _ => (drawn / 16 % 65536) as u64,
+        _ => u64::from(drawn / 16 % 65536),
     }
 }
 
 // Word k put off; a flag, that of the plan that waits or a domain's, is put to the other, and an estimate to another kind or
 // to other bits.
 fn word_off(k: usize, x: u64, drawn: u32) -> u64 {
-    match k {
-        6 => return turn_off(x, drawn),
-        forms::FORCE | forms::NEXT => return number_off(x, drawn),
-        forms::WAITS => return 1 - x % 2,
-        _ => (),
-    }
-    match k % 14 {
-        0 | 11 => 1 - x % 2,
-        12 => (x % 3 + 1 + (drawn % 2) as u64) % 3,
-        13 => estimates::bits(drawn % 16, drawn / 16 % 8, drawn / 128),
+    match (k, k % 14) {
+        (6, _) => turn_off(x, drawn),
+        (forms::FORCE | forms::NEXT, _) => number_off(x, drawn),
+        (forms::WAITS, _) | (_, 0 | 11) => 1 - x % 2,
+        (_, 12) => (x % 3 + 1 + u64::from(drawn % 2)) % 3,
+        (_, 13) => estimates::bits(drawn % 16, drawn / 16 % 8, drawn / 128),
         _ => number_off(x, drawn),
     }
 }
 
 // Any word of a state: one of the first seventeen rows, of which 8 to 13 are none, the flag, or one of the plan beside it.
 fn any_word(x: u32) -> usize {
-    let k = x % 336;
-    if k <= 239 {
-        return match k {
-            8..=13 => 7,
-            _ => k as usize,
-        };
+    match x % 336 {
+        8..=13 => 7,
+        k @ 0..=239 => k as usize,
+        k => {
+            let i = k - 240;
+            forms::NEXT + 14 * (i / 6 + 1) as usize + forms::plan_column(i % 6)
+        }
     }
-    let i = k - 240;
-    forms::NEXT + 14 * (i / 6 + 1) as usize + forms::plan_column(i % 6)
 }
 
 // One number put off.
@@ -292,36 +288,32 @@ fn any_state(words: &mut [u64], seed: u32) {
         1 => 3,
         _ => 1,
     };
-    let mut k: u32 = 0;
-    while k < 336 {
+    for k in 0..336 {
         let x = draw::upto(seed, 100 + k, most);
-        forms::put(words, any_word(k), x as u64);
-        k += 1;
+        forms::put(words, any_word(k), u64::from(x));
     }
 }
 
 // So many periods closed that one more can be, or none; then now and then another number off too.
 fn long_run(words: &mut [u64], seed: u32) {
-    forms::put(words, 2, 4294967294 + draw::upto(seed, 83, 1) as u64);
-    match draw::upto(seed, 84, 3) {
-        0 => one_off(words, seed),
-        _ => (),
+    forms::put(words, 2, 4294967294 + u64::from(draw::upto(seed, 83, 1)));
+    if draw::upto(seed, 84, 3) == 0 {
+        one_off(words, seed);
     }
 }
 
 // A plan that would be refused beside the flag; now and then no period more can be closed.
 fn beside(words: &mut [u64], waits: bool, seed: u32) {
     handing::lay_spoiled(words, waits, seed);
-    match draw::upto(seed, 84, 3) {
-        0 => forms::put(words, 2, 4294967295),
-        _ => (),
+    if draw::upto(seed, 84, 3) == 0 {
+        forms::put(words, 2, 4294967295);
     }
 }
 
 // Idle slots put behind those decided until one slot is left, so that the next one closes the period.
 fn to_last_slot(words: &mut [u64]) {
     let left = slots_left(words);
-    shift_in(words, 0, 0, left as u64);
+    shift_in(words, 0, 0, u64::from(left));
 }
 
 // Changes the words of a state, for the kinds 15 to 20, 24 to 26, 28 and 29; they may come to more than a state holds.
@@ -346,10 +338,7 @@ fn change(words: &mut [u64], kind: u32, seed: u32) {
 
 // Whether a changed state is tried at each step of a kind.
 pub fn has_kind(kind: u32) -> bool {
-    match kind {
-        15..=20 | 24..=26 | 28 | 29 => true,
-        _ => false,
-    }
+    matches!(kind, 15..=20 | 24..=26 | 28 | 29)
 }
 
 // Puts the changed state of a step.

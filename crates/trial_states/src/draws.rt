@@ -1,9 +1,9 @@
 // Drawn calls on a state of these words: offers, yields, and faults put into either.
 ghost use Rattle.std.specs.Prelude.{◌≤◌};
 
-use super::calls::Call;
+use super::calls::{Asks, Call};
+use super::forms;
 use super::styles::Style;
-use super::{calls, forms};
 use trial_kit::draw;
 
 // Whether the domain whose number is one above is planned.
@@ -11,19 +11,15 @@ fn is_planned(words: &[u64], i: usize) -> bool {
     forms::word(words, 14 * (i % 16 + 1)) != 0
 }
 
-// The first domain number from a start on, going round, that is planned or is not; 0 for none.
+// The first domain number from a start on, going round, that is planned or is not; 0 for none, since each caller takes it as a
+// number or a row, best effort's then.
 pub fn domain_from(words: &[u64], start: u32, planned: bool) -> usize
     ensures { result ≤ 16 }
 {
-    let mut left: u32 = 0;
-    while left < 16 {
-        let i = (std::num::wrapping_add_u32(start, left) % 16) as usize;
-        if is_planned(words, i) == planned {
-            return i + 1;
-        }
-        left += 1;
-    }
-    0
+    (0..16)
+        .map(|k| (start.wrapping_add(k) % 16) as usize)
+        .find(|&i| is_planned(words, i) == planned)
+        .map_or(0, |i| i + 1)
 }
 
 // The kind that a domain offers with claim left; where it has both or neither, the one drawn.
@@ -42,12 +38,12 @@ fn offer(words: &[u64], style: Style, run: u32, seed: u32, n: u32) -> u8 {
     if style.offers == 0 {
         return 0;
     }
-    let writes = draw::upto(seed, std::num::wrapping_add_u32(n, 20), 15) < style.writebacks;
-    let steady = draw::upto(run, std::num::wrapping_add_u32(n, 900), 3) == 0;
+    let writes = draw::upto(seed, n.wrapping_add(20), 15) < style.writebacks;
+    let steady = draw::upto(run, n.wrapping_add(900), 3) == 0;
     if steady {
         return asked_kind(words, (n % 17) as usize, writes);
     }
-    if draw::upto(seed, std::num::wrapping_add_u32(n, 40), 15) >= style.offers {
+    if draw::upto(seed, n.wrapping_add(40), 15) >= style.offers {
         return 0;
     }
     if writes { 2 } else { 1 }
@@ -55,20 +51,16 @@ fn offer(words: &[u64], style: Style, run: u32, seed: u32, n: u32) -> u8 {
 
 // Its offer, or none from a domain that is not planned.
 fn offer_at(words: &[u64], style: Style, run: u32, seed: u32, n: usize) -> u8 {
-    if n > 0 {
-        if !is_planned(words, n - 1) {
-            return 0;
-        }
+    if n > 0 && !is_planned(words, n - 1) {
+        return 0;
     }
     offer(words, style, run, seed, (n % 17) as u32)
 }
 
 fn offers(words: &[u64], style: Style, run: u32, seed: u32) -> [u8; 18] {
     let mut all = [0u8; 18];
-    let mut n: usize = 0;
-    while n < 17 {
+    for n in 0..17 {
         all[n] = offer_at(words, style, run, seed, n);
-        n += 1;
     }
     all
 }
@@ -82,24 +74,19 @@ fn length(x: u32) -> usize {
     }
 }
 
-fn with_offer(c: Call, n: usize, value: u8) -> Call {
-    let mut after = c;
-    let at = n % 17;
-    after.offers[at] = value;
-    after
+fn with_offer(mut c: Call, n: usize, value: u8) -> Call {
+    c.offers[n % 17] = value;
+    c
 }
 
 fn with_lengths(c: Call, offered: usize, lent: usize) -> Call {
-    let mut after = c;
-    after.offered = offered;
-    after.lent = lent;
-    after
+    Call { offered, lent, ..c }
 }
 
 // A slot call with one fault: a length, an offer byte above 2, an offer from a domain that is not planned, or a byte
 // above 2 from such a one.
 fn slot_fault(c: Call, words: &[u64], seed: u32, salt: u32) -> Call {
-    let x = draw::draw(seed, std::num::wrapping_add_u32(salt, 1));
+    let x = draw::draw(seed, salt.wrapping_add(1));
     let absent = domain_from(words, x, false);
     let above = if x / 32 % 4 == 0 {
         255
@@ -122,9 +109,9 @@ fn any_domain(words: &[u64], n: u64, x: u32) -> u64 {
         0 => 0,
         1 => 17,
         2 => 255,
-        3 => std::num::wrapping_add_u64(n, 256),
-        4 => std::num::wrapping_add_u64(n, 65536),
-        5 => std::num::wrapping_add_u64(n, 4294967296),
+        3 => n.wrapping_add(256),
+        4 => n.wrapping_add(65536),
+        5 => n.wrapping_add(4294967296),
         6 => 18446744073709551615,
         7 => domain_from(words, x / 16, false) as u64,
         _ => n,
@@ -137,30 +124,21 @@ fn any_amount(claim: u64, writes: u64, x: u32) -> u64 {
     match x % 10 {
         0 | 1 => 0,
         2 => claim,
-        3 => std::num::wrapping_add_u64(claim, 1),
+        3 => claim.wrapping_add(1),
         4 => 65536,
         5 => 65537,
         6 => 4294967296,
         7 => 4294967297,
-        8 => std::num::wrapping_add_u64(claim, writes),
+        8 => claim.wrapping_add(writes),
         _ => 18446744073709551615,
     }
 }
 
-fn with_yield(c: Call, domain: u64, k: u64) -> Call {
-    let mut after = c;
-    after.domain = domain;
-    after.k = k;
-    after
-}
-
 // Some of a claim; 1 where there is none.
 fn some_of(claim: u64, seed: u32) -> u64 {
-    let most = (claim % 65536) as u32;
-    if most > 0 {
-        (1 + draw::upto(seed, 11, most - 1)) as u64
-    } else {
-        1
+    match (claim % 65536) as u32 {
+        0 => 1,
+        most => 1 + u64::from(draw::upto(seed, 11, most - 1)),
     }
 }
 
@@ -190,7 +168,7 @@ fn yield_of(c: Call, words: &[u64], seed: u32, faults: u32) -> Call {
     } else {
         some_of(claim, seed)
     };
-    with_yield(c, domain, k)
+    Call { domain, k, ..c }
 }
 
 // How many faults a call of a style has.
@@ -215,14 +193,14 @@ fn slot_of(c: Call, words: &[u64], seed: u32, faults: u32) -> Call {
 }
 
 // What the call of a step is.
-pub fn kind_of(style: Style, seed: u32) -> u8 {
+pub fn kind_of(style: Style, seed: u32) -> Asks {
     if draw::upto(seed, 6, 63) < style.hands {
-        return calls::HAND;
+        return Asks::HandIn;
     }
     if draw::upto(seed, 1, 15) < style.yields {
-        calls::YIELD
+        Asks::Yield
     } else {
-        calls::SLOT
+        Asks::Slot
     }
 }
 
@@ -231,17 +209,17 @@ fn asked(words: &[u64], seed: u32) -> u64 {
     let n = domain_from(words, draw::upto(seed, 15, 15), true) as u64;
     match draw::upto(seed, 14, 7) {
         0 => any_domain(words, n, draw::draw(seed, 16)),
-        1 => draw::upto(seed, 16, 16) as u64,
+        1 => u64::from(draw::upto(seed, 16, 16)),
         2 => 0,
         _ => n,
     }
 }
 
 // The call of a step; a plan that is handed in is no part of it.
-pub fn call(words: &[u64], style: Style, run: u32, seed: u32, what: u8) -> Call {
+pub fn call(words: &[u64], style: Style, run: u32, seed: u32, asks: Asks) -> Call {
     let faults = faults_of(style, seed);
     let c = Call {
-        what,
+        asks,
         offers: offers(words, style, run, seed),
         offered: 17,
         lent: 17,
@@ -249,9 +227,9 @@ pub fn call(words: &[u64], style: Style, run: u32, seed: u32, what: u8) -> Call 
         domain: asked(words, seed),
         k: 0,
     };
-    match what {
-        calls::SLOT => slot_of(c, words, seed, faults),
-        calls::YIELD => yield_of(c, words, seed, faults),
-        _ => c,
+    match asks {
+        Asks::Slot => slot_of(c, words, seed, faults),
+        Asks::Yield => yield_of(c, words, seed, faults),
+        Asks::HandIn | Asks::Open => c,
     }
 }

@@ -1,49 +1,41 @@
 // Estimates of every sort: put into states, and told apart again.
 ghost use Rattle.std.specs.Prelude.{◌<◌, ◌≤◌};
 
-use super::calls::Call;
-use super::{calls, draws, forms, marks};
+use super::calls::{Asks, Call};
+use super::marks::Mark;
+use super::{draws, forms, marks};
 use model_calls::{floats, forecast};
 use trial_kit::draw;
-use trial_kit::tally::both;
 
 const SIGN: u64 = 9223372036854775808;
 
 const INFINITY: u64 = 9218868437227405312;
 
-fn wide(x: u32) -> u64
-    ensures { result < 4294967296 }
-{
-    x as u64
-}
-
 // The bits of a whole number.
 fn whole(n: u32) -> u64 {
-    let sorted = floats::bits_of(n as f64);
-    sorted.bits
+    floats::bits_of(f64::from(n)).bits
 }
 
 // The bits of a quarter of a whole number.
 fn quarter(n: u32) -> u64 {
-    let sorted = floats::bits_of(n as f64 * 0.25);
-    sorted.bits
+    floats::bits_of(f64::from(n) * 0.25).bits
 }
 
 // Bits of a sort, where it needs one beside a whole number: 0 to 2 the number, the next float above and below; 3 and 4 both
 // zeros, 5 to 7 subnormals, 8 a negative number, 9 and 10 both infinities, 11 and 12 the largest on both sides, 13 a fraction,
-// 14 any bits, and 15 those of a NaN.
+// 14 any bits, and 15 those of a NaN. A sort is a number and no enum: it is drawn.
 pub fn bits(sort: u32, n: u32, drawn: u32) -> u64 {
-    let digits = wide(drawn);
+    let digits = u64::from(drawn);
     match sort {
         0 => whole(n),
-        1 => std::num::wrapping_add_u64(whole(n), 1),
-        2 => std::num::wrapping_sub_u64(whole(n), 1),
+        1 => whole(n).wrapping_add(1),
+        2 => whole(n).wrapping_sub(1),
         3 => 0,
         4 => SIGN,
         5 => 1 + digits % 4,
         6 => SIGN + 1 + digits,
         7 => 4503599627370495 - digits % 4,
-        8 => SIGN | whole(std::num::wrapping_add_u32(n, 1)),
+        8 => SIGN | whole(n.wrapping_add(1)),
         9 => INFINITY,
         10 => SIGN + INFINITY,
         11 => INFINITY - 1 - digits,
@@ -118,10 +110,8 @@ fn put_planned(words: &mut [u64], row: usize, seed: u32) {
 
 // Estimates of drawn sorts for the planned domains.
 pub fn put_sorts(words: &mut [u64], seed: u32) {
-    let mut n: u32 = 1;
-    while n <= 16 {
+    for n in 1..=16 {
         put_planned(words, n as usize, draw::draw(seed, n + 120));
-        n += 1;
     }
 }
 
@@ -151,10 +141,10 @@ fn sort_above(given: u64, above: u32, reservation: u32) -> usize
     if given == whole(above) {
         return if above == 4096 { 5 } else { 6 };
     }
-    if given == std::num::wrapping_add_u64(whole(std::num::wrapping_sub_u32(above, 1)), 1) {
+    if given == whole(above.wrapping_sub(1)).wrapping_add(1) {
         return 7;
     }
-    if std::num::wrapping_add_u64(given, 1) == whole(above) {
+    if given.wrapping_add(1) == whole(above) {
         return 8;
     }
     if above > reservation { 9 } else { 10 }
@@ -164,20 +154,17 @@ fn sort_of(given: u64, reservation: u32) -> usize
     ensures { result ≤ 13 }
 {
     match given {
-        0 => return 2,
-        SIGN => return 11,
-        INFINITY => return 12,
-        18442240474082181120 => return 13,
-        _ => (),
+        0 => 2,
+        SIGN => 11,
+        INFINITY => 12,
+        18442240474082181120 => 13,
+        _ if given % SIGN < 4503599627370496 => 3,
+        _ if given > SIGN => 4,
+        _ => {
+            let above = forecast::least_above(floats::float_of(given), 65535);
+            sort_above(given, (above % 65536) as u32, reservation)
+        }
     }
-    if given % SIGN < 4503599627370496 {
-        return 3;
-    }
-    if given > SIGN {
-        return 4;
-    }
-    let above = forecast::least_above(floats::float_of(given), 65535);
-    sort_above(given, (above % 65536) as u32, reservation)
 }
 
 // The sort of a domain's estimate.
@@ -204,50 +191,30 @@ pub fn need(words: &[u64], row: usize) -> usize
 {
     let left = number(words, row, 5);
     let all = number(words, row, 1);
-    match all {
-        0 => return 0,
-        1 => return if left == 0 { 1 } else { 2 },
-        _ => (),
+    match (all, left) {
+        (0, _) => 0,
+        (1, 0) => 1,
+        (1, _) => 2,
+        (_, 0) => 3,
+        _ if left == all => 6,
+        _ if all.wrapping_sub(left) == 1 => 5,
+        _ => 4,
     }
-    if left == all {
-        return 6;
-    }
-    if left == 0 {
-        return 3;
-    }
-    if std::num::wrapping_sub_u32(all, left) == 1 {
-        5
-    } else {
-        4
-    }
-}
-
-// Whether the plan that waits is the plan in force again.
-fn is_again(words: &[u64]) -> bool {
-    let mut next = [0u64; 238];
-    let mut force = [0u64; 238];
-    forms::put_plan(&mut next, forms::FORCE, forms::plan_of(words, forms::NEXT));
-    forms::put_plan(
-        &mut force,
-        forms::FORCE,
-        forms::plan_of(words, forms::FORCE),
-    );
-    forms::same_words(&next, &force)
 }
 
 // The close of a period, from these words before its last slot and after: whether the next begins with a yield by forecast;
 // whether a new plan drops estimates, and then is the plan in force again; whether a marked domain has reclaimed, and written
 // back, in the period.
 fn of_close(before: &[u64], after: &[u64]) -> [bool; 7] {
-    let marked = marks::domains(before, marks::MARKED);
+    let marked = marks::domains(before, Mark::Marked);
     let waits = forms::word(before, forms::WAITS) != 0;
-    let drops = both(waits, marks::domains(before, marks::ESTIMATED) != 0);
+    let drops = waits && marks::domains(before, Mark::Estimated) != 0;
     [
-        marks::domains(after, marks::FORESEEN) != 0,
+        marks::domains(after, Mark::Foreseen) != 0,
         drops,
-        both(drops, is_again(before)),
-        (marks::domains(before, marks::RECLAIMED) & marked) != 0,
-        (marks::domains(before, marks::WRITEBACKS) & marked) != 0,
+        drops && forms::same_plans(before, forms::NEXT, forms::FORCE),
+        (marks::domains(before, Mark::Reclaimed) & marked) != 0,
+        (marks::domains(before, Mark::Writebacks) & marked) != 0,
         false,
         false,
     ]
@@ -257,11 +224,11 @@ fn of_close(before: &[u64], after: &[u64]) -> [bool; 7] {
 // the claim and what is yielded already together.
 fn of_yield(words: &[u64], c: Call, number: u32) -> [bool; 7] {
     let at = 14 * (c.domain % 17) as usize;
-    let once = std::num::wrapping_add_u64(forms::word(words, at + 5), forms::word(words, at + 8));
+    let once = forms::word(words, at + 5).wrapping_add(forms::word(words, at + 8));
     let foreseen = forecast::need(words, at / 14) < forms::word(words, at + 1);
     let mut all = [false; 7];
-    all[5] = both(number == 0, foreseen);
-    all[6] = both(both(number == 23, foreseen), c.k <= once);
+    all[5] = number == 0 && foreseen;
+    all[6] = number == 23 && foreseen && c.k <= once;
     all
 }
 
@@ -270,7 +237,7 @@ pub fn of_call(before: &[u64], after: &[u64], c: Call, number: u32, complete: bo
     if complete {
         return of_close(before, after);
     }
-    if c.what == calls::YIELD {
+    if c.asks == Asks::Yield {
         of_yield(before, c, number)
     } else {
         [false; 7]
@@ -280,13 +247,13 @@ pub fn of_call(before: &[u64], after: &[u64], c: Call, number: u32, complete: bo
 // A changed state, and whether it adds up: whether a planned domain without a mark has an estimate, whether an absent one has;
 // whether there are estimates, and then a NaN, and the state adds up.
 pub fn of_change(words: &[u64], adds: bool) -> [bool; 4] {
-    let planned = marks::domains(words, marks::PLANNED);
-    let marked = marks::domains(words, marks::MARKED);
-    let estimated = marks::domains(words, marks::ESTIMATED);
+    let planned = marks::domains(words, Mark::Planned);
+    let marked = marks::domains(words, Mark::Marked);
+    let estimated = marks::domains(words, Mark::Estimated);
     [
         (estimated & planned & !marked) != 0,
         (estimated & !planned) != 0,
-        both(adds, estimated != 0),
-        both(adds, marks::domains(words, marks::NAN) != 0),
+        adds && estimated != 0,
+        adds && marks::domains(words, Mark::Nan) != 0,
     ]
 }

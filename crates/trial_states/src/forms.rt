@@ -4,6 +4,7 @@ ghost use Rattle.std.specs.Prelude.{◌≤◌};
 use model_calls::floats;
 use plan::Plan;
 use regulator::{Counts, Estimate, State, Tracked, Waiting};
+use std::array;
 use trial_kit::values;
 
 // Where the plan in force begins, the plan beside the flag, and the plan at hand, which is opened or handed in and no part of
@@ -19,79 +20,41 @@ pub const WAITS: usize = 239;
 
 // A word, 0 where there is none.
 pub fn word(words: &[u64], k: usize) -> u64 {
-    if k < words.len() { words[k] } else { 0 }
+    words.get(k).copied().unwrap_or(0)
 }
 
 pub fn put(words: &mut [u64], k: usize, value: u64) {
-    if k < words.len() {
-        words[k] = value;
+    if let Some(word) = words.get_mut(k) {
+        *word = value;
     }
 }
 
-// Puts words in the place of others.
+// Puts words in the place of others, 0 where there are none.
 pub fn copy(to: &mut [u64], from: &[u64]) {
-    let mut k: usize = 0;
-    while k < to.len() {
-        to[k] = word(from, k);
-        k += 1;
-    }
-}
-
-pub fn same_words(a: &[u64], b: &[u64]) -> bool {
-    let mut k: usize = 0;
-    while k < a.len() {
-        if k >= b.len() {
-            return false;
-        }
-        if a[k] != b[k] {
-            return false;
-        }
-        k += 1;
-    }
-    true
-}
-
-fn wide(x: u16) -> u64 {
-    x as u64
-}
-
-fn low(x: u64) -> u16 {
-    (x % 65536) as u16
+    let n = to.len().min(from.len());
+    to[..n].copy_from_slice(&from[..n]);
+    to[n..].fill(0);
 }
 
 // Puts sixteen numbers, one in each row from a word on.
 fn put_numbers(to: &mut [u64], from: usize, numbers: [u16; 16])
     requires { from ≤ 24 }
 {
-    let mut i: usize = 0;
-    while i < 16 {
-        put(to, from + 14 * i, wide(numbers[i]));
-        i += 1;
+    for i in 0..16 {
+        put(to, from + 14 * i, u64::from(numbers[i]));
     }
 }
 
 fn numbers(words: &[u64], from: usize) -> [u16; 16]
     requires { from ≤ 714 }
 {
-    let mut all = [0u16; 16];
-    let mut i: usize = 0;
-    while i < 16 {
-        all[i] = low(word(words, from + 14 * i));
-        i += 1;
-    }
-    all
+    array::from_fn(|i| values::narrow(word(words, from + 14 * i)))
 }
 
 fn flags(words: &[u64], from: usize) -> [bool; 16]
     requires { from ≤ 714 }
 {
-    let mut all = [false; 16];
-    let mut i: usize = 0;
-    while i < 16 {
-        all[i] = word(words, from + 14 * i) != 0;
-        i += 1;
-    }
-    all
+    array::from_fn(|i| word(words, from + 14 * i) != 0)
 }
 
 // The column of one of a domain's words in a plan.
@@ -108,12 +71,10 @@ pub fn plan_column(which: u32) -> usize
 pub fn put_plan(to: &mut [u64], from: usize, p: Plan)
     requires { from ≤ 476 }
 {
-    put(to, from, wide(p.period));
-    let mut k: u32 = 0;
-    while k < 96 {
+    put(to, from, u64::from(p.period));
+    for k in 0..96 {
         let at = from + 14 * (k / 6 + 1) as usize + plan_column(k % 6);
-        put(to, at, values::word(p, k) as u64);
-        k += 1;
+        put(to, at, u64::from(values::word(p, k)));
     }
 }
 
@@ -121,7 +82,7 @@ pub fn plan_of(words: &[u64], from: usize) -> Plan
     requires { from ≤ 476 }
 {
     Plan {
-        period: low(word(words, from)),
+        period: values::narrow(word(words, from)),
         planned: flags(words, from + 14),
         reservation: numbers(words, from + 15),
         reclaimcap: numbers(words, from + 16),
@@ -129,6 +90,13 @@ pub fn plan_of(words: &[u64], from: usize) -> Plan
         writebackreservation: numbers(words, from + 18),
         marked: flags(words, from + 25),
     }
+}
+
+// Whether the plan that begins at a word is the one that begins at another.
+pub fn same_plans(words: &[u64], a: usize, b: usize) -> bool
+    requires { (a ≤ 476) × (b ≤ 476) }
+{
+    plan_of(words, a) == plan_of(words, b)
 }
 
 pub fn nothing_tracked() -> [Tracked; 16] {
@@ -155,12 +123,8 @@ fn put_estimate(to: &mut [u64], at: usize, e: Estimate)
 }
 
 fn put_estimates(to: &mut [u64], tracked: [Tracked; 16]) {
-    let mut i: usize = 0;
-    while i < 16 {
-        let t = tracked[i];
-        let e = t.estimate;
-        put_estimate(to, 26 + 14 * i, e);
-        i += 1;
+    for i in 0..16 {
+        put_estimate(to, 26 + 14 * i, tracked[i].estimate);
     }
 }
 
@@ -173,57 +137,40 @@ fn estimate_of(kind: u64, bits: u64) -> Estimate {
 }
 
 fn estimates(words: &[u64]) -> [Tracked; 16] {
-    let mut all = nothing_tracked();
-    let mut i: usize = 0;
-    while i < 16 {
-        let t = Tracked {
-            estimate: estimate_of(word(words, 26 + 14 * i), word(words, 27 + 14 * i)),
-        };
-        all[i] = t;
-        i += 1;
-    }
-    all
+    array::from_fn(|i| Tracked {
+        estimate: estimate_of(word(words, 26 + 14 * i), word(words, 27 + 14 * i)),
+    })
 }
 
 // Puts the numbers of the period's slots.
-fn put_slots(to: &mut [u64], decided: u16, idle: u16, best: u16, stock: u16, steps: u32) {
-    put(to, 1, wide(decided));
-    put(to, 3, wide(idle));
-    put(to, 4, wide(best));
-    put(to, 5, wide(stock));
-    put(to, 7, steps as u64);
+fn put_slots(to: &mut [u64], s: State) {
+    put(to, 1, u64::from(s.decided));
+    put(to, 3, u64::from(s.idle));
+    put(to, 4, u64::from(s.best));
+    put(to, 5, u64::from(s.stock));
+    put(to, 7, u64::from(s.steps));
 }
 
 // Puts what outlasts a period, and what waits.
-fn put_lasting(to: &mut [u64], closed: u32, turn: usize, w: Waiting, tracked: [Tracked; 16]) {
-    let p = w.plan;
-    put(to, 2, closed as u64);
-    put(to, 6, turn as u64);
-    put(to, WAITS, if w.given { 1 } else { 0 });
-    put_plan(to, NEXT, p);
-    put_estimates(to, tracked);
+fn put_lasting(to: &mut [u64], s: State) {
+    put(to, 2, u64::from(s.closed));
+    put(to, 6, s.turn as u64);
+    put(to, WAITS, u64::from(s.waiting.given));
+    put_plan(to, NEXT, s.waiting.plan);
+    put_estimates(to, s.tracked);
 }
 
 // Puts a state; the words that it does not have stay.
 pub fn put_state(to: &mut [u64], s: State) {
-    let p = s.plan;
-    let claim = s.claim;
-    let reserved = s.reserved;
-    let reclaimed = s.reclaimed;
-    let yielded = s.yielded;
-    let writebacks = s.writebacks;
-    let waiting = s.waiting;
-    let writebackclaim = s.writebackclaim;
-    let tracked = s.tracked;
-    put_plan(to, FORCE, p);
-    put_slots(to, s.decided, s.idle, s.best, s.stock, s.steps);
-    put_lasting(to, s.closed, s.turn, waiting, tracked);
-    put_numbers(to, 19, claim);
-    put_numbers(to, 20, reserved);
-    put_numbers(to, 21, reclaimed);
-    put_numbers(to, 22, yielded);
-    put_numbers(to, 23, writebacks);
-    put_numbers(to, 24, writebackclaim);
+    put_plan(to, FORCE, s.plan);
+    put_slots(to, s);
+    put_lasting(to, s);
+    put_numbers(to, 19, s.claim);
+    put_numbers(to, 20, s.reserved);
+    put_numbers(to, 21, s.reclaimed);
+    put_numbers(to, 22, s.yielded);
+    put_numbers(to, 23, s.writebacks);
+    put_numbers(to, 24, s.writebackclaim);
 }
 
 fn waiting_of(words: &[u64]) -> Waiting {
@@ -237,11 +184,11 @@ fn waiting_of(words: &[u64]) -> Waiting {
 pub fn state_of(words: &[u64]) -> State {
     State {
         plan: plan_of(words, FORCE),
-        decided: low(word(words, 1)),
+        decided: values::narrow(word(words, 1)),
         closed: (word(words, 2) % 4294967296) as u32,
-        idle: low(word(words, 3)),
-        best: low(word(words, 4)),
-        stock: low(word(words, 5)),
+        idle: values::narrow(word(words, 3)),
+        best: values::narrow(word(words, 4)),
+        stock: values::narrow(word(words, 5)),
         turn: word(words, 6) as usize,
         claim: numbers(words, 19),
         reserved: numbers(words, 20),
@@ -263,15 +210,11 @@ pub fn fit(words: &mut [u64]) {
 
 // Puts the counts of a period where the model has them.
 pub fn put_counts(to: &mut [u64], c: Counts) {
-    let reserved = c.reserved;
-    let reclaimed = c.reclaimed;
-    let yielded = c.yielded;
-    let writebacks = c.writebacks;
-    put(to, 3, wide(c.idle));
-    put(to, 4, wide(c.best));
-    put(to, 7, c.steps as u64);
-    put_numbers(to, 20, reserved);
-    put_numbers(to, 21, reclaimed);
-    put_numbers(to, 22, yielded);
-    put_numbers(to, 23, writebacks);
+    put(to, 3, u64::from(c.idle));
+    put(to, 4, u64::from(c.best));
+    put(to, 7, u64::from(c.steps));
+    put_numbers(to, 20, c.reserved);
+    put_numbers(to, 21, c.reclaimed);
+    put_numbers(to, 22, c.yielded);
+    put_numbers(to, 23, c.writebacks);
 }

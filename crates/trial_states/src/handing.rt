@@ -1,14 +1,15 @@
 // Plans that are handed in, drawn for a state of these words, and plans laid beside its flag.
 ghost use Rattle.std.specs.Prelude.{◌≤◌};
 
+use super::calls::Asks;
 use super::styles::Style;
-use super::{calls, draws, forms};
+use super::{draws, forms};
 use plan::Plan;
 use trial_kit::{draw, plans, styles, values};
 
 // The plan with drawn numbers for a domain, Q up to the most given.
 fn with_drawn(p: Plan, domain: u32, most: u32, seed: u32) -> Plan {
-    let period = values::wide(p.period);
+    let period = u32::from(p.period);
     let r = draw::upto(seed, 92, period);
     let w = draw::upto(seed, 93, period);
     let v = draw::upto(seed, 99, if w < 2 { w } else { 2 });
@@ -26,7 +27,7 @@ fn index_from(words: &[u64], start: u32, planned: bool) -> u32
 // a slot more or less, or with another mark.
 fn edited(words: &[u64], seed: u32) -> Plan {
     let p = forms::plan_of(words, forms::FORCE);
-    let period = values::wide(p.period);
+    let period = u32::from(p.period);
     let present = index_from(words, draw::upto(seed, 94, 15), true);
     let absent = index_from(words, draw::upto(seed, 95, 15), false);
     let k = present * 6;
@@ -69,8 +70,8 @@ fn drawn(words: &[u64], style: Style, seed: u32) -> Plan {
 }
 
 // Puts the plan at hand, where it is to be handed in.
-pub fn prepare(words: &mut [u64], style: Style, seed: u32, what: u8) {
-    if what == calls::HAND {
+pub fn prepare(words: &mut [u64], style: Style, seed: u32, asks: Asks) {
+    if asks == Asks::HandIn {
         let p = drawn(words, style, draw::draw(seed, 5));
         forms::put_plan(words, forms::GIVEN, p);
     }
@@ -80,5 +81,5 @@ pub fn prepare(words: &mut [u64], style: Style, seed: u32, what: u8) {
 pub fn lay_spoiled(words: &mut [u64], waits: bool, seed: u32) {
     let p = spoiled(edited(words, seed), seed);
     forms::put_plan(words, forms::NEXT, p);
-    forms::put(words, forms::WAITS, if waits { 1 } else { 0 });
+    forms::put(words, forms::WAITS, u64::from(waits));
 }

@@ -1,39 +1,32 @@
 // What a call on a state of these words shows of plans handed in: yes or no for each line that is printed of it.
-ghost use Rattle.std.specs.Prelude.{◌≤◌};
+ghost use Rattle.std.specs.Prelude.{◌≤◌, ℕ};
 
-use super::calls::Call;
-use super::{calls, forms};
+use super::calls::{Asks, Call};
+use super::forms;
 use model_calls::forecast;
-use trial_kit::tally::both;
 
-// What a domain may have: a place in the plan in force, in the one that waits, or in the one at hand; claim, while the one at
-// hand leaves it out; numbers or a mark that the one at hand has otherwise; claim; writebacks; reclaimed passes; a mark; an
-// estimate, and one that is a NaN; a yield by forecast.
-pub const PLANNED: u32 = 0;
+// What a domain may have.
+#[derive(Clone, Copy, Debug, PartialEq, Eq)]
+pub enum Mark {
+    // A place in the plan in force, in the one that waits, or in the one at hand.
+    Planned,
+    Coming,
+    Given,
+    // Claim, while the plan at hand leaves it out; numbers or a mark that the one at hand has otherwise.
+    Dropped,
+    Resized,
+    Claim,
+    Writebacks,
+    Reclaimed,
+    Marked,
+    Estimated,
+    Nan,
+    // A yield by forecast.
+    Foreseen,
+}
 
-const COMING: u32 = 1;
-
-const GIVEN: u32 = 2;
-
-const DROPPED: u32 = 3;
-
-const RESIZED: u32 = 4;
-
-pub const CLAIM: u32 = 5;
-
-pub const WRITEBACKS: u32 = 6;
-
-pub const RECLAIMED: u32 = 7;
-
-pub const MARKED: u32 = 8;
-
-pub const ESTIMATED: u32 = 9;
-
-pub const NAN: u32 = 10;
-
-pub const FORESEEN: u32 = 11;
-
-// Whether a word of a domain is another in the plan at hand, as bits.
+// Whether a word of a domain is another in the plan at hand, as bits. Here and below a place is required to be inside its words:
+// a type for it would be made and taken apart at each use.
 fn other(words: &[u64], at: usize) -> u64
     requires { at ≤ 237 }
 {
@@ -49,78 +42,64 @@ fn otherwise(words: &[u64], at: usize) -> u64
 }
 
 // Whether the domain whose row begins at a word has this.
-fn has(words: &[u64], at: usize, what: u32) -> bool
+fn has(words: &[u64], at: usize, what: Mark) -> bool
     requires { at ≤ 224 }
 {
     let planned = forms::word(words, at) != 0;
     let given = forms::word(words, forms::GIVEN + at) != 0;
     let claim = forms::word(words, at + 5) != 0;
     match what {
-        PLANNED => planned,
-        COMING => forms::word(words, forms::NEXT + at) != 0,
-        GIVEN => given,
-        DROPPED => both(claim, !given),
-        RESIZED => both(both(planned, given), otherwise(words, at) != 0),
-        CLAIM => claim,
-        WRITEBACKS => forms::word(words, at + 9) != 0,
-        _ => has_more(words, at, what),
+        Mark::Planned => planned,
+        Mark::Coming => forms::word(words, forms::NEXT + at) != 0,
+        Mark::Given => given,
+        Mark::Dropped => claim && !given,
+        Mark::Resized => planned && given && otherwise(words, at) != 0,
+        Mark::Claim => claim,
+        Mark::Writebacks => forms::word(words, at + 9) != 0,
+        Mark::Reclaimed => forms::word(words, at + 7) != 0,
+        Mark::Marked => forms::word(words, at + 11) != 0,
+        Mark::Estimated => forms::word(words, at + 12) != 0,
+        Mark::Nan => forms::word(words, at + 12) == 2,
+        Mark::Foreseen => forecast::need(words, at / 14) < forms::word(words, at + 1),
     }
 }
 
-fn has_more(words: &[u64], at: usize, what: u32) -> bool
-    requires { at ≤ 224 }
+// The domains of which something holds, domain 1 as the lowest bit.
+pub fn those<F: Fn(usize) -> bool>(holds: F) -> u32
+    requires { (n : ℕ) → 1 ≤ n → n ≤ 16 → F.pre holds n }
 {
-    match what {
-        RECLAIMED => forms::word(words, at + 7) != 0,
-        MARKED => forms::word(words, at + 11) != 0,
-        ESTIMATED => forms::word(words, at + 12) != 0,
-        NAN => forms::word(words, at + 12) == 2,
-        _ => forecast::need(words, at / 14) < forms::word(words, at + 1),
-    }
-}
-
-// Bits with one more below them; sixteen are kept.
-pub fn with_bit(bits: u32, more: bool) -> u32 {
-    let above = bits % 32768 * 2;
-    if more { above + 1 } else { above }
-}
-
-// The domains that have this, domain 1 as the lowest bit.
-pub fn domains(words: &[u64], what: u32) -> u32 {
     let mut bits: u32 = 0;
-    let mut left: usize = 16;
-    while left > 0 {
-        bits = with_bit(bits, has(words, 14 * left, what));
-        left -= 1;
+    for n in 1..=16 {
+        if holds(n) {
+            bits |= 1 << (n - 1);
+        }
     }
     bits
 }
 
+// The domains that have this.
+pub fn domains(words: &[u64], what: Mark) -> u32 {
+    those(|n| has(words, 14 * n, what))
+}
+
 // The domains of the plan in force, and a bit above them that tells a plan from none.
 pub fn planned(words: &[u64]) -> u32 {
-    domains(words, PLANNED) | 65536
+    domains(words, Mark::Planned) | 65536
 }
 
 // Whether a domain offers, or is the one that yields.
 fn asks(c: Call, n: usize) -> bool
     requires { n ≤ 16 }
 {
-    let what = c.what;
-    match what {
-        calls::SLOT => c.offers[n] != 0,
-        calls::YIELD => c.domain == n as u64,
-        _ => false,
+    match c.asks {
+        Asks::Slot => c.offers[n] != 0,
+        Asks::Yield => c.domain == n as u64,
+        Asks::HandIn | Asks::Open => false,
     }
 }
 
 fn asking(c: Call) -> u32 {
-    let mut bits: u32 = 0;
-    let mut left: usize = 16;
-    while left > 0 {
-        bits = with_bit(bits, asks(c, left));
-        left -= 1;
-    }
-    bits
+    those(|n| asks(c, n))
 }
 
 // A slot call or a yield: whether a plan takes force, and then is of a smaller or a larger period; whether 33, and then 21, is
@@ -128,30 +107,24 @@ fn asking(c: Call) -> u32 {
 // yield, is taken from a domain that the plan that waits leaves out.
 pub fn of_call(words: &[u64], c: Call, number: u32, complete: bool, before: u32) -> [bool; 9] {
     let asked = asking(c);
-    let force = domains(words, PLANNED);
-    let next = domains(words, COMING);
+    let force = domains(words, Mark::Planned);
+    let next = domains(words, Mark::Coming);
     let waits = forms::word(words, forms::WAITS) != 0;
-    let comes = both(complete, waits);
-    let due = both(waits, (asked | force | next) == (force | next));
-    let gone = both(before != 0, (asked | force | before) == (force | before));
-    let left = both(both(waits, number == 0), (asked | next) != next);
-    let bad_yield = both(number == 21, asked != 0);
+    let comes = complete && waits;
+    let due = waits && (asked | force | next) == (force | next);
+    let gone = before != 0 && (asked | force | before) == (force | before);
+    let left = waits && number == 0 && (asked | next) != next;
+    let bad_yield = number == 21 && asked != 0;
     [
         comes,
-        both(
-            comes,
-            forms::word(words, forms::NEXT) < forms::word(words, forms::FORCE),
-        ),
-        both(
-            comes,
-            forms::word(words, forms::NEXT) > forms::word(words, forms::FORCE),
-        ),
-        both(number == 33, due),
-        both(number == 33, gone),
-        both(bad_yield, due),
-        both(bad_yield, gone),
-        both(left, c.what == calls::SLOT),
-        both(left, c.what == calls::YIELD),
+        comes && forms::word(words, forms::NEXT) < forms::word(words, forms::FORCE),
+        comes && forms::word(words, forms::NEXT) > forms::word(words, forms::FORCE),
+        number == 33 && due,
+        number == 33 && gone,
+        bad_yield && due,
+        bad_yield && gone,
+        left && c.asks == Asks::Slot,
+        left && c.asks == Asks::Yield,
     ]
 }
 
@@ -160,26 +133,23 @@ pub fn of_call(words: &[u64], c: Call, number: u32, complete: bool, before: u32)
 // stock and writebacks stand.
 fn of_taken(words: &[u64]) -> [bool; 13] {
     let at = forms::word(words, 1);
-    let last = forms::word(words, forms::FORCE) == std::num::wrapping_add_u64(at, 1);
-    let force = domains(words, PLANNED);
-    let given = domains(words, GIVEN);
-    let resized = domains(words, RESIZED) != 0;
-    let again = both(
-        force == given,
-        both(!resized, other(words, forms::FORCE) == 0),
-    );
-    let stand = both(domains(words, CLAIM) != 0, domains(words, WRITEBACKS) != 0);
+    let last = forms::word(words, forms::FORCE) == at.wrapping_add(1);
+    let force = domains(words, Mark::Planned);
+    let given = domains(words, Mark::Given);
+    let resized = domains(words, Mark::Resized) != 0;
+    let again = force == given && !resized && other(words, forms::FORCE) == 0;
+    let stand = domains(words, Mark::Claim) != 0 && domains(words, Mark::Writebacks) != 0;
     [
-        both(at == 0, !last),
-        both(at > 0, !last),
-        both(at > 0, last),
-        both(at == 0, last),
+        at == 0 && !last,
+        at > 0 && !last,
+        at > 0 && last,
+        at == 0 && last,
         forms::word(words, forms::WAITS) != 0,
         again,
         (force | given) != force,
-        domains(words, DROPPED) != 0,
+        domains(words, Mark::Dropped) != 0,
         resized,
-        both(stand, forms::word(words, 5) > 0),
+        stand && forms::word(words, 5) > 0,
         false,
         false,
         false,
@@ -204,17 +174,17 @@ pub fn of_plan(words: &[u64], number: u32) -> [bool; 13] {
 // then would be refused with 2, 9, 11 and 10; whether there is one that does not wait, would be refused, and the state adds up.
 pub fn of_change(words: &[u64], number: u32, adds: bool) -> [bool; 8] {
     let waits = forms::word(words, forms::WAITS) != 0;
-    let some = forms::word(words, forms::NEXT) | domains(words, COMING) as u64;
-    let beside = both(some != 0, !waits);
-    let refused = both(beside, number != 0);
+    let some = forms::word(words, forms::NEXT) | u64::from(domains(words, Mark::Coming));
+    let beside = some != 0 && !waits;
+    let refused = beside && number != 0;
     [
         waits,
-        both(waits, number == 2),
-        both(waits, number == 9),
-        both(waits, number == 11),
-        both(waits, number == 10),
+        waits && number == 2,
+        waits && number == 9,
+        waits && number == 11,
+        waits && number == 10,
         beside,
         refused,
-        both(refused, adds),
+        refused && adds,
     ]
 }

@@ -1,10 +1,8 @@
 // States and slot calls in which a chosen set of numbers passes, with a chosen turn: every turn, and sets of every size.
 ghost use Rattle.std.specs.Prelude.{◌<◌, ◌≤◌};
 
-use super::calls;
-use super::calls::Call;
+use super::calls::{Asks, Call};
 use model_calls::cells;
-use trial_kit::tally::both;
 use trial_kit::{draw, lines};
 
 // The first kind of such states. The ways, a kind each: loose is above 0, without stock (0) and with stock to reclaim (1); loose
@@ -24,7 +22,7 @@ pub struct Passing {
 
 // Each turn with each size; while others wait, a set has one domain or more and no best effort.
 pub fn of_case(kind: u32, case: u32, seed: u32) -> Passing {
-    let way = std::num::wrapping_sub_u32(kind, KIND) % 4;
+    let way = kind.wrapping_sub(KIND) % 4;
     let size = if way == BLOCKED {
         1 + case % 16
     } else {
@@ -40,42 +38,36 @@ pub fn of_case(kind: u32, case: u32, seed: u32) -> Passing {
 
 // The numbers that are to pass, drawn.
 pub fn set(p: Passing) -> [bool; 17] {
-    let best = both(p.way != BLOCKED, draw::upto(p.seed, 400, 16) < p.size);
-    let domains = if best {
-        std::num::wrapping_sub_u32(p.size, 1)
-    } else {
-        p.size
-    };
+    let best = p.way != BLOCKED && draw::upto(p.seed, 400, 16) < p.size;
+    let domains = if best { p.size.wrapping_sub(1) } else { p.size };
     let order = draw::shuffled(p.seed, 401, 16);
     let mut all = [best; 17];
-    let mut i: u32 = 0;
-    while i < 16 {
+    for i in 0..16 {
         all[(i + 1) as usize] = draw::entry(order, i) < domains;
-        i += 1;
     }
     all
 }
 
 // What a number does: it offers nothing (0), an access on claim (1), a writeback on claim (2), or one without claim below W (3);
 // an access without claim where it has yielded (4), where it has not (5), or at R (6); a writeback at W (7); a domain that is
-// not planned (8).
+// not planned (8). A number and no enum: the tables below are drawn from by it.
 const YIELDED: u32 = 4;
 
 const ABSENT: u32 = 8;
 
 // What a number does by the way, where it is to pass or not.
 fn part(p: Passing, passes: bool, n: u32) -> u32 {
-    if both(n == 0, both(!passes, p.way != BLOCKED)) {
+    if n == 0 && !passes && p.way != BLOCKED {
         return 0;
     }
     let row = (p.way % 4 * 16) as usize;
-    let drawn = draw::upto(p.seed, std::num::wrapping_add_u32(n, 500), 7);
-    let column = std::num::wrapping_add_u32(drawn, if passes { 0 } else { 8 });
+    let drawn = draw::upto(p.seed, n.wrapping_add(500), 7);
+    let column = drawn.wrapping_add(if passes { 0 } else { 8 });
     let parts = b"1231233305678567\
         1234123406786780\
         1212121203456783\
         3434343406786780";
-    lines::digit(parts, row, column as usize) as u32
+    u32::from(lines::digit(parts, row, column as usize))
 }
 
 // The offer of a number that does so.
@@ -93,9 +85,9 @@ fn number(part: u32, column: u32, bits: u32) -> u64
         0021000110001100\
         0000000000000000";
     let at = (part % 9 * 8 + column) as usize;
-    let least = lines::digit(numbers, 0, at) as u64;
-    if both(lines::digit(numbers, 4, at) == 1, bits >> column & 1 == 1) {
-        std::num::wrapping_add_u64(least, 1)
+    let least = u64::from(lines::digit(numbers, 0, at));
+    if lines::digit(numbers, 4, at) == 1 && bits >> column & 1 == 1 {
+        least.wrapping_add(1)
     } else {
         least
     }
@@ -103,17 +95,13 @@ fn number(part: u32, column: u32, bits: u32) -> u64
 
 fn put_plan(words: &mut [u64], n: usize, part: u32, bits: u32) {
     let planned = part != ABSENT;
-    let marked = both(planned, bits & 16 != 0);
-    cells::put(words, n, cells::PRESENT, one_if(planned));
+    let marked = planned && bits & 16 != 0;
+    cells::put(words, n, cells::PRESENT, u64::from(planned));
     cells::put(words, n, cells::Q, number(part, 0, bits));
     cells::put(words, n, cells::R, number(part, 1, bits));
     cells::put(words, n, cells::W, number(part, 2, bits));
     cells::put(words, n, cells::V, number(part, 3, bits));
-    cells::put(words, n, cells::MARK, one_if(marked));
-}
-
-fn one_if(b: bool) -> u64 {
-    if b { 1 } else { 0 }
+    cells::put(words, n, cells::MARK, u64::from(marked));
 }
 
 // A domain, and what it has left of its claims.
@@ -129,17 +117,17 @@ fn put_domain(words: &mut [u64], n: usize, part: u32, bits: u32) {
 // A drawn number below a limit, 0 where it is 0.
 fn below(seed: u32, salt: u32, limit: u64) -> u64 {
     let most = (limit % 65536) as u32;
-    draw::upto(seed, salt, if most > 0 { most - 1 } else { 0 }) as u64
+    u64::from(draw::upto(seed, salt, most.saturating_sub(1)))
 }
 
 // The slots decided, all idle, where claims stand: so few that loose is above 0 in the first two ways, and so many that it is at
 // most 0 in the others, where there is any claim.
 fn decided(p: Passing, period: u64, claims: u64) -> u64 {
-    let loose = cells::less(period, claims);
+    let loose = period.saturating_sub(claims);
     if p.way < BLOCKED || claims == 0 {
         return below(p.seed, 402, loose);
     }
-    std::num::wrapping_add_u64(loose, below(p.seed, 403, claims))
+    loose.wrapping_add(below(p.seed, 403, claims))
 }
 
 // The period, a few slots or many more than are reserved, and its words.
@@ -152,7 +140,7 @@ fn put_slots(words: &mut [u64], p: Passing) {
     } else {
         5
     };
-    let period = std::num::wrapping_add_u64(reserved + 3, below(p.seed, 405, more));
+    let period = (reserved + 3).wrapping_add(below(p.seed, 405, more));
     let slots = decided(p, period, claims) % 4096;
     cells::put(words, 0, cells::PERIOD, period);
     cells::put(words, 0, cells::DECIDED, slots);
@@ -164,33 +152,29 @@ fn put_slots(words: &mut [u64], p: Passing) {
 
 // Puts the state, where all words are 0.
 pub fn put_state(words: &mut [u64], p: Passing, set: [bool; 17]) {
-    let mut n: u32 = 1;
-    while n <= 16 {
+    for n in 1..=16 {
         let does = part(p, set[n as usize], n);
         put_domain(words, n as usize, does, draw::draw(p.seed, n + 600));
-        n += 1;
     }
     put_slots(words, p);
 }
 
 fn offers(p: Passing, set: [bool; 17]) -> [u8; 18] {
     let mut all = [0u8; 18];
-    let mut n: u32 = 0;
-    while n < 17 {
+    for n in 0..17 {
         all[n as usize] = offer(part(p, set[n as usize], n));
-        n += 1;
     }
     all
 }
 
 pub fn call(p: Passing, set: [bool; 17]) -> Call {
     Call {
-        what: calls::SLOT,
+        asks: Asks::Slot,
         offers: offers(p, set),
         offered: 17,
         lent: 17,
         filled: draw::low(p.seed),
-        domain: draw::upto(p.seed, 16, 16) as u64,
+        domain: u64::from(draw::upto(p.seed, 16, 16)),
         k: 0,
     }
 }

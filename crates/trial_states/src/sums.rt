@@ -1,5 +1,6 @@
 // The sum of steps of a state, put at its bounds and off them. Ways 0 to 3 are the least, one less, the most and one more; the
 // others 0, all 32 bits, 65,536 more than the sum is, and 0 less the sum; both go round.
+// A way is a number and no enum: it is drawn.
 use super::forms;
 
 pub const LEAST: u32 = 0;
@@ -15,8 +16,8 @@ fn sum_in(idle: u64, decided: u64, sum: u64, way: u32) -> u64 {
         3 => most + 1,
         4 => 0,
         5 => 4294967295,
-        6 => std::num::wrapping_add_u64(sum, 65536),
-        _ => std::num::wrapping_sub_u64(0, sum),
+        6 => sum.wrapping_add(65536),
+        _ => 0u64.wrapping_sub(sum),
     }
 }
 
@@ -32,18 +33,7 @@ pub fn edge(words: &[u64]) -> usize {
     let idle = forms::word(words, 3);
     let decided = forms::word(words, 1);
     let sum = forms::word(words, 7);
-    if sum == sum_in(idle, decided, sum, 0) {
-        return 0;
-    }
-    if sum == sum_in(idle, decided, sum, 1) {
-        return 1;
-    }
-    if sum == sum_in(idle, decided, sum, 2) {
-        return 2;
-    }
-    if sum == sum_in(idle, decided, sum, 3) {
-        3
-    } else {
-        4
-    }
+    (0..4)
+        .position(|way| sum == sum_in(idle, decided, sum, way))
+        .unwrap_or(4)
 }

@@ -6,7 +6,7 @@ ghost use Rattle.parts.specs.Input.{Kept};
 ghost use Rattle.question.specs.Seeking.{Sound};
 ghost use Rattle.why.specs.Buffers.{Within};
 
-use parts::Part;
+use parts::{Behind, Part};
 use question::Search;
 use std::io::{Read, Write};
 
@@ -43,8 +43,7 @@ fn advance<R: Read>(s: Stream, source: &mut R, text: &mut [u8]) -> Stream
     }
     let part = Part {
         filled,
-        more: false,
-        failed: false,
+        behind: Behind::End,
     };
     Stream { search, part }
 }
@@ -56,17 +55,15 @@ fn read_script<R: Read>(search: Search, source: &mut R, text: &mut [u8]) -> Stre
 {
     let part = Part {
         filled: 0,
-        more: true,
-        failed: false,
+        behind: Behind::More,
     };
     let mut s = Stream { search, part };
-    let mut turns = u64::MAX;
-    while turns > 0 {
-        if !s.part.more {
+    // Not a bare loop: a function is proved to end, and no script has so many parts.
+    for _ in 0..u64::MAX {
+        if s.part.behind != Behind::More {
             return s;
         }
         s = advance(s, source, text);
-        turns -= 1;
     }
     s
 }
@@ -79,7 +76,7 @@ fn complain(rt: &impl Eprint) {
 fn tell<W: Write>(s: Stream, sink: &mut W) -> bool
     requires { Sound s.search }
 {
-    if s.part.failed {
+    if s.part.behind == Behind::Failure {
         return false;
     }
     let mut out = [0u8; 64];

@@ -1,28 +1,27 @@
 -- Laws of the call: what is told is the cause, and the answer by the lines of its refusal.
 -- Assumes nothing.
-use mathlib.Core.Path.{◌≡◌, refl, ap, ◌∙◌}
+use mathlib.Core.Path.{◌≡◌, refl, sym, ap, ◌∙◌}
 use mathlib.Core.Logic.{◌≢◌}
 use mathlib.Core.Bool.{true, false}
 use mathlib.Core.List.{List}
-use Prim.Native.Nat.{ℕ, ◌+◌, ◌-◌, ◌≤◌}
+use Prim.Native.Nat.{ℕ, ◌+◌, ◌≤◌}
 use native.Mathlib.Decide.{ℕ_discrete}
 use native.Mathlib.Omega.{arith}
-use lib.Dec.{eqb, ltb}
-use lib.IntN.{ℤ}
+use lib.Dec.{eqb}
 use lib.ListN.{length, length-set}
 use borrow.Author.Tests.{ne_eqb}
-use Rattle.table.specs.Sums.{nth, sum}
+use Rattle.table.specs.Sums.{nth}
 use Rattle.table.specs.Ranges.{lowest}
 use Rattle.table.proofs.Tables.{miss}
 use Rattle.table.proofs.Filling.{values_length}
-use Rattle.regulator.specs.Verdict.{claim_of, waiting, loose, ruling_of}
+use Rattle.regulator.specs.Verdict.{waiting, loose, ruling_of}
 use Rattle.regulator.specs.Turn.{granted, rulings, verdicts}
 use Rattle.regulator.specs.Refusals.{slot_refusal}
 use Rattle.regulator.specs.declared.state.State.{State}
 use Rattle.regulator.proofs.Laws.Adding.{Adds, adds}
 use Rattle.regulator.proofs.Laws.Refusing.{slot_taken, domain_number}
 use Rattle.regulator.proofs.Laws.Ruling.{one_granted}
-use Rattle.cause.specs.Cause.{none, word_for, cause_from, cause_at, verdict_of, cause_of}
+use Rattle.cause.specs.Cause.{none, loose_and, cause_from, cause_at, verdict_of, cause_of}
 use Rattle.cause.specs.Explaining.{no_number, explain_refusal, explain_of}
 
 -- there are seventeen verdicts
@@ -41,24 +40,21 @@ module _ (s : State) (o : List ℕ) (e : slot_refusal s o 17 ≡ 0) where
   pub slots_left : s.decided ≤ s.plan.period
   slots_left = omega (arith, whole.below)
 
-  -- the numbers that are found are those of the definition
-  pub told_cause : (v : List ℕ) → v ≡ verdicts s o → (n j left g y r : ℕ) (l : ℤ) (k : ℕ)
-      → j ≡ n - 1
-      → left ≡ claim_of (nth o n) (nth s.claim j) (nth s.writebackclaim j)
-      → g ≡ lowest (λ (m : ℕ). eqb (nth v m) 1) 17
-      → y ≡ sum s.yielded
-      → r ≡ sum s.reclaimed
-      → l ≡ loose s
-      → k ≡ lowest (waiting s o) 16
-      → cause_from (nth v n) (word_for (eqb n 0) (ltb 0 left) (eqb (nth o n) 2)) g (nth s.plan.writebackcap j) (nth s.plan.reclaimcap j)
-      y r l (k + 1) ≡ cause_of s o n
-  unfolding cause_at
-  told_cause v q n j left g y r l k ej el eg ey er ez ek =
-      let claim = el ∙ ap (λ (i : ℕ). claim_of (nth o n) (nth s.claim i) (nth s.writebackclaim i)) ej in
-      let given = eg ∙ ap (λ (w : List ℕ). lowest (λ (m : ℕ). eqb (nth w m) 1) 17) q ∙ one_granted s o whole.balanced.turn in
-      λ i.
-      cause_from (nth (q i) n) (word_for (eqb n 0) (ltb 0 (claim i)) (eqb (nth o n) 2)) (given i) (nth s.plan.writebackcap (ej i))
-      (nth s.plan.reclaimcap (ej i)) (ey i) (er i) (ez i) (ek i + 1)
+  pub granted_is : (v : List ℕ) → v ≡ verdicts s o → (g : ℕ) → g ≡ lowest (λ (m : ℕ). eqb (nth v m) 1) 17 → g ≡ granted s o
+  granted_is v q g e = e ∙ ap (λ (w : List ℕ). lowest (λ (m : ℕ). eqb (nth w m) 1) 17) q ∙ one_granted s o whole.balanced.turn
+
+-- the cause is that of the verdict, which is one of the first six or none of them
+module _ (s : State) (o : List ℕ) (n : ℕ) (v : List ℕ) (q : v ≡ verdicts s o) where
+  pub told_at : (k : ℕ) → nth v n ≡ k → cause_at s o n k ≡ cause_of s o n
+  told_at k e = ap (cause_at s o n) (sym e ∙ ap (λ (w : List ℕ). nth w n) q)
+
+  pub told_else : nth v n ≢ 0 → nth v n ≢ 1 → nth v n ≢ 2 → nth v n ≢ 3 → nth v n ≢ 4 → nth v n ≢ 5
+      → loose_and (loose s) (lowest (waiting s o) 16 + 1) ≡ cause_of s o n
+  unfolding cause_at cause_from
+  told_else z0 z1 z2 z3 z4 z5 = sym (other (nth v n) z0 z1 z2 z3 z4 z5) ∙ told_at (nth v n) refl
+    where
+      other : (k : ℕ) → k ≢ 0 → k ≢ 1 → k ≢ 2 → k ≢ 3 → k ≢ 4 → k ≢ 5 → cause_at s o n k ≡ loose_and (loose s) (lowest (waiting s o) 16 + 1)
+      other k z0 z1 z2 z3 z4 z5 = rw (ne_eqb k 0 z0, ne_eqb k 1 z1, ne_eqb k 2 z2, ne_eqb k 3 z3, ne_eqb k 4 z4, ne_eqb k 5 z5) refl
 
 -- a number that is 0 or planned is at most 16
 pub number_most : (s : State) (n : ℕ) → no_number s.plan n ≡ false → n ≤ 16

@@ -19,11 +19,10 @@ use Rattle.table.proofs.Searches.{none_at, lowest_is, lowest_some, lowest_at}
 use Rattle.regulator.specs.Verdict.{at_cap, claim_of, waiting, loose, blocked, ruling, ruling_at, ruling_of, passes}
 use Rattle.regulator.specs.Turn.{granted, steps_of, verdicts}
 use Rattle.regulator.specs.Grant.{on_claim, on_stock, on_neither, on_writeback, onward, decided_of}
-use Rattle.regulator.specs.Close.{ended}
+use Rattle.regulator.specs.Close.{ended, Answer}
 use Rattle.regulator.specs.Refusals.{above_two, slot_refusal}
 use Rattle.regulator.specs.Calls.{slot_of}
 use Rattle.regulator.specs.declared.state.State.{State}
-use Rattle.regulator.specs.declared.close.Answer.{Answer}
 use Rattle.regulator.proofs.Laws.Adding.{Adds, adds}
 use Rattle.regulator.proofs.Laws.Refusing.{slot_taken}
 use Rattle.regulator.proofs.Laws.Asking.{ask_passes}

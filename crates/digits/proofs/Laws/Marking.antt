@@ -12,7 +12,6 @@ use lib.Bits.{bit_and, bit_or, bit_xor, and_high, and_le_l, and_le_r, and_lt, or
 use Rattle.bits.specs.Bits.{bit}
 use Rattle.bits.proofs.Laws.{bit_and_lem, bit_zero, bit_pow, bit_shr, bit_above, join_low, join_high}
 use Rattle.digits.specs.Lanes.{Lanes, Folded, Gathered, Laid, Digit, Offered, from}
-use Rattle.digits.specs.declared.answer.Offers.TheVariants.{Masks, Other}
 use Rattle.digits.proofs.Laws.Joining.{later, repeated, lanes_repeated, lanes_and, lanes_or, lanes_xor, lanes_none}
 use Rattle.digits.proofs.Laws.Folding.{lower_bits, upper_bits}
 
@@ -151,13 +150,3 @@ module _ (b : List ℕ) (at : ℕ) (bytes : (n : ℕ) → get_or b n 0 < 256) wh
     offered none h y-is z-is g₁ g₂ la h₁ h₂ lw apart =
         let small = values_few none h in
         marked small (access_is y-is z-is small g₁ g₂ la) (writeback_is y-is z-is small h₁ h₂ lw) la.small lw.small apart
-
--- the answer's cases
-pub other_not : (a w : ℕ) → Other ≡ Masks a w → ⊥
-other_not a w e = let z : ◌≡◌ {A = ℕ} 0 1 = cc in omega arith
-
-pub told : (b : List ℕ) (at x y a w : ℕ) → Offered b at x y → Masks x y ≡ Masks a w → Offered b at a w
-told b at x y a w o e =
-    let p : x ≡ a = cc in
-    let q : y ≡ w = cc in
-    subst (λ (z : ℕ). Offered b at z w) p (subst (λ (z : ℕ). Offered b at x z) q o)

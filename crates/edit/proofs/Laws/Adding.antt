@@ -14,13 +14,11 @@ use Rattle.table.proofs.Tables.{miss, hit, neg, neg', and_both, clear, tells_its
 use Rattle.table.proofs.Elements.{sum_snoc}
 use Rattle.table.proofs.Searches.{highest_is, highest_none}
 use Rattle.table.proofs.Lists.{has_not, not_has, has_neither, differ, last_in}
-use Rattle.plan.specs.Value.{no_domains, with_domain, plan_of, reserves, reserved_of, refusal}
+use Rattle.plan.specs.Value.{no_domains, with_domain, plan_of, reserves, reserved_of, refusal, Refusal}
 use Rattle.plan.specs.Records.{zeros, record_at, record_count, period_in, next_in, domain_in, domain_at, number_at, domain_record}
 use Rattle.plan.specs.Chain.{unlisted, link_of, link, chain_of, domains_at, domains_in}
-use Rattle.plan.specs.Reading.{accepted_reading, read_plan}
+use Rattle.plan.specs.Reading.{accepted_reading, read_plan, Reading}
 use Rattle.plan.specs.declared.value.Domain.{Domain}
-use Rattle.plan.specs.declared.value.Refusal.{Refusal}
-use Rattle.plan.specs.declared.reading.Reading.{Reading}
 use Rattle.plan.proofs.Laws.Values.{within}
 use Rattle.plan.proofs.Laws.Holding.{Fine, with_snoc}
 use Rattle.plan.proofs.Laws.Links.{link_of_lem}

@@ -12,13 +12,11 @@ use borrow.Author.Tests.{eqb-true, eq-eqb, ne_eqb, not-false}
 use Rattle.table.specs.Members.{has, each, last_of, place_in, without}
 use Rattle.table.proofs.Tables.{miss, hit, neg, neg', clear, tells_itself}
 use Rattle.table.proofs.Lists.{has_first, has_later, not_has, has_left, has_right, has_neither, neither_has, differ, last_in, last_take, parted_at, map_at, place_at, Apart, apart_mid, apart_sides, apart_front, without_mid}
-use Rattle.plan.specs.Value.{plan_of, reserved_of, refusal}
+use Rattle.plan.specs.Value.{plan_of, reserved_of, refusal, Refusal}
 use Rattle.plan.specs.Records.{zeros, record_at, record_count, period_in, domain_at, number_at}
 use Rattle.plan.specs.Chain.{link_of, chain_of, domains_at}
-use Rattle.plan.specs.Reading.{accepted_reading, read_plan}
+use Rattle.plan.specs.Reading.{accepted_reading, read_plan, Reading}
 use Rattle.plan.specs.declared.value.Domain.{Domain}
-use Rattle.plan.specs.declared.value.Refusal.{Refusal}
-use Rattle.plan.specs.declared.reading.Reading.{Reading}
 use Rattle.plan.proofs.Laws.Holding.{numbers}
 use Rattle.plan.proofs.Laws.Links.{numbers_met}
 use Rattle.plan.proofs.Laws.Chains.{Leads, lead_to, lead_over, lead_join, lead_front, lead_back, Takeable, Orderly, orderly_some, orderly_less, orderly_low, chain_leads, chain_orderly, chain_ends}

@@ -1,7 +1,7 @@
 -- Laws of the chain held as an array: how it is listed, its entries, and what is found in it.
 -- Assumes nothing.
-use mathlib.Core.Path.{◌≡◌, sym, ap, ap₂, subst, ◌∙◌}
-use mathlib.Core.Bool.{true, false}
+use mathlib.Core.Path.{◌≡◌, refl, sym, ap, ap₂, subst, ◌∙◌}
+use mathlib.Core.Bool.{◌||◌}
 use mathlib.Core.List.{List, [], ◌∷◌, ◌++◌}
 use Prim.Native.Nat.{ℕ, ◌+◌, ◌-◌, ◌≤◌, ◌<◌}
 use native.Mathlib.Numerals.{add-one}
@@ -9,13 +9,14 @@ use native.Mathlib.Decide.{ℕ_discrete}
 use native.Mathlib.Omega.{arith}
 use lib.ListN.{length, take, set, replicate, length-set, get_or-append}
 use lib.Seq.{take-suc, take-suc-set, take_all, get_or-take, length-take-le}
-use borrow.Author.Tests.{eq-eqb}
+use borrow.Author.Tests.{eq-eqb, ne_eqb}
+use Rattle.std.specs.List.{list_any}
+use lib.Dec.{eqb}
 use Rattle.table.specs.Sums.{nth}
 use Rattle.table.specs.Members.{has, last_of}
 use Rattle.table.specs.Lines.{first_of}
 use Rattle.table.proofs.Tables.{hit}
-use Rattle.table.proofs.Flags.{has_more}
-use Rattle.table.proofs.Lists.{has_at, last_take, map_at}
+use Rattle.table.proofs.Lists.{last_take, map_at}
 use Rattle.plan.specs.Value.{reserved_of}
 use Rattle.plan.specs.Records.{record_count, number_at}
 use Rattle.plan.specs.Chain.{link_of, link, chain_of, domains_in, sums_in}
@@ -90,9 +91,6 @@ module _ (xs : List ℕ) (count : ℕ) (records : List ℕ) (v : Lists xs count 
       entry count (omega arith) ∙ sym (last_take xs 0 count (omega (arith, v.counted))) ∙ ap (last_of 0) (take_all count xs (omega (arith, v.counted)))
 
 module _ (s : List ℕ) (count : ℕ) (records : List ℕ) (v : Lists (chain_of s) count records) where
-  pub few : count ≤ 16
-  few = omega (arith, v.counted, at_most_sixteen s)
-
   -- the record of an entry is in the file
   pub entry_in : 16 ≤ length s → (k : ℕ) → k ≤ count → nth records k < record_count s
   entry_in long k h = subst (λ (i : ℕ). i < record_count s) (sym (entry (chain_of s) count records v k h)) (source_in s long k (omega (arith, v.counted)))
@@ -114,13 +112,12 @@ pass_on s n k v f i h e = go (ℕ_discrete i k)
     go (yes q) = f (ap (nth (numbers_in s)) (sym q) ∙ e)
     go (no q) = v i (omega arith) e
 
--- the search for a record in the front of an array: passed by, and found
-module _ (records : List ℕ) (k j : ℕ) where
-  pub not_listed : j < length records → has k (take j records) ≡ false → (nth records j ≡ k → ⊥) → has k (take (j + 1) records) ≡ false
-  not_listed h e f =
-      ap (has k) (ap (λ (n : ℕ). take n records) (add-one j) ∙ take-suc records j 0 h) ∙ has_more k (take j records) (nth records j) e (λ q. f (sym q))
-
-  pub listed : (n : ℕ) → j < n → n ≤ length records → nth records j ≡ k → has k (take n records) ≡ true
-  listed n h long e =
-      ap (λ (i : ℕ). has i (take n records)) (sym e ∙ sym (get_or-take n records j 0 h))
-      ∙ has_at (take n records) j (omega (arith, length-take-le n records long))
+-- a list has a number where some element of it is that number
+pub any_has : (k : ℕ) (xs : List ℕ) → list_any (λ x. eqb x k) xs ≡ has k xs
+unfolding has
+any_has k [] = refl
+any_has k (x ∷ xs) = ap₂ ◌||◌ (turned (ℕ_discrete x k)) (any_has k xs)
+  where
+    turned : Dec (x ≡ k) → eqb x k ≡ eqb k x
+    turned (yes q) = eq-eqb x k q ∙ sym (eq-eqb k x (sym q))
+    turned (no q) = ne_eqb x k q ∙ sym (ne_eqb k x (λ e. q (sym e)))

@@ -20,18 +20,15 @@ use Rattle.table.proofs.Lists.{has_not, has_other, last_in, last_take, map_take}
 use Rattle.plan.specs.Value.{no_period, plan_of, reserved_of}
 use Rattle.plan.specs.Records.{part, zeros, record_at, record_count, period_in, domain_at}
 use Rattle.plan.specs.Chain.{link_of, link, goes_on, chain_of, domains_at, domains_in}
-use Rattle.plan.specs.Reading.{no_length, head_table, refused_reading, accepted_reading, read_plan}
+use Rattle.plan.specs.Reading.{no_length, head_table, refused_reading, accepted_reading, read_plan, Reading}
 use Rattle.plan.specs.declared.value.Domain.{Domain}
-use Rattle.plan.specs.declared.reading.Reading.{Reading}
 use Rattle.plan.proofs.Laws.Links.{walk_ends}
 use Rattle.plan.proofs.Laws.Chains.{Leads, lead_front, lead_at, lead_to, Orderly, orderly_some, orderly_inside, orderly_front, chain_leads, chain_orderly, chain_ends}
 use Rattle.plan.proofs.Laws.Reading.{Good, good, head_whole}
-use Rattle.plan.proofs.Laws.Telling.{at_most_sixteen}
 use Rattle.plan.proofs.Laws.Leftovers.{Tidy, tidy}
 use Rattle.plan.proofs.Laws.Intact.{Intact, intact_chain, intact_read}
 use Rattle.edit.specs.Laying.{laid, blank, with_link}
-use Rattle.edit.specs.declared.rescuing.Rescued.{Rescued}
-use Rattle.edit.specs.Rescue.{remaining, kept_count, kept_records, rescued_record, stays_refused, rescue_answer, rescued, one_more, RescuesFile, AcceptedRescueKeeps, RefusedRescueKeeps}
+use Rattle.edit.specs.Rescue.{Rescued, remaining, kept_count, kept_records, rescued_record, stays_refused, rescue_answer, rescued, one_more, RescuesFile, AcceptedRescueKeeps, RefusedRescueKeeps}
 use Rattle.edit.proofs.Laws.Records.{record_long, zeros_are}
 use Rattle.edit.proofs.Laws.Laying.{laid_same, with_same, with_long, with_none}
 use Rattle.edit.proofs.Laws.Rereading.{Keeping, laid_to, kept_length, kept_count_lem, kept_period, kept_head, kept_domains, kept_orderly, kept_link, new_link}
@@ -96,9 +93,6 @@ module _ (s : List ℕ) where
 
   pub kept_within : kept_count s ≤ all
   kept_within = (is_left all).within
-
-  pub kept_few : length (kept_records s) ≤ 16
-  kept_few = omega (arith, length-take-le (kept_count s) (chain_of s) kept_within, kept_within, at_most_sixteen s)
 
   -- all of them where the sum is not above the period
   module _ (fits : reserved_of (domains_in s) ≤ period_in s) where

@@ -78,25 +78,6 @@ zeros_at (suc n) (suc k) = zeros_at n k
 above_none : (l : List ℕ) (k : ℕ) → not (eqb (nth l k) (nth (replicate 16 0) k)) ≡ ltb 0 (nth l k)
 above_none l k = ap (λ (x : ℕ). not (eqb (nth l k) x)) (zeros_at 16 k) ∙ above_zero (nth l k)
 
--- the four masks of a state's lists, as the code makes them
-pub marked_all : (claim writebackclaim reclaimed writebacks reclaimcap writebackcap : List ℕ) (has back may some room : ℕ)
-    → Marks has (λ (k : ℕ). not (eqb (nth claim k) (nth (replicate 16 0) k)))
-    → Marks back (λ (k : ℕ). not (eqb (nth writebackclaim k) (nth (replicate 16 0) k)))
-    → Marks may (λ (k : ℕ). not (eqb (nth reclaimed k) (nth reclaimcap k)))
-    → Marks some (λ (k : ℕ). not (eqb (nth writebacks k) (nth writebackcap k)))
-    → WithBit some 0 true room
-    → Marked claim writebackclaim reclaimed writebacks reclaimcap writebackcap has back may room
-marked_all claim writebackclaim reclaimed writebacks reclaimcap writebackcap has back may some room h b m r new =
-    record {
-      has_best = h.best;
-      has_at = λ k. h.at k ∙ above_none claim k;
-      back_best = b.best;
-      back_at = λ k. b.at k ∙ above_none writebackclaim k;
-      may_at = m.at;
-      room_best = new 0 ∙ or-true (bit some 0);
-      room_at = λ k. new (k + 1) ∙ ap (λ (x : Bool). bit some (k + 1) || (x && true)) (ne_eqb (k + 1) 0 (λ z. omega arith)) ∙ or-false (bit some (k + 1)) ∙ r.at k;
-    }
-
 -- ---- the numbers that wait on claim, and those that pass
 
 pub wait_bits : (a w h b n : ℕ) → bit (bit_or (bit_and a h) (bit_and w b)) n ≡ wait_at (bit a n) (bit w n) (bit h n) (bit b n)

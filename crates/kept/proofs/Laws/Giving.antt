@@ -17,7 +17,8 @@ use Rattle.bits.specs.Bits.{bit}
 use Rattle.regulator.specs.Turn.{after}
 use Rattle.regulator.specs.Grant.{grant, onward}
 use Rattle.regulator.specs.declared.state.State.{State}
-use Rattle.kept.specs.Tables.{Tables, Few, Shifted}
+use Rattle.kept.specs.declared.tables.Tables.{Tables}
+use Rattle.kept.specs.Tables.{Few, Shifted}
 use Rattle.kept.specs.Numbers.{Rest, state_of, Kept, Ready}
 use Rattle.kept.specs.Grant.{taken_of, Lasting, Refreshed, Renewed, Fit}
 use Rattle.kept.specs.declared.numbers.Numbers.{Numbers}
@@ -87,7 +88,7 @@ module _ {m m' n x c : ℕ} {e : Bool} {l' : List ℕ} (l : List ℕ) (lo : 0 < 
 
 module _ {reclaimcap writebackcap : List ℕ} {f : Numbers} {t : Tables} {n : ℕ} {w : Bool} {d : Taken} (lo : 0 < n) (hi : n ≤ 16)
     (kept : Kept reclaimcap writebackcap f t) (ready : Ready reclaimcap writebackcap f t) (fit : Fit f n w)
-    (ds : d ≡ taken_of w (bit f.has n) (bit f.back n)) (small : Few d) where
+    (ds : d ≡ taken_of w (bit f.masks.has n) (bit f.masks.back n)) (small : Few d) where
   abbrev j : ℕ
   j = n - 1
 
@@ -96,7 +97,7 @@ module _ {reclaimcap writebackcap : List ℕ} {f : Numbers} {t : Tables} {n : �
 
   -- the bits are the tests of the tables
   taken_is : d ≡ taken_of w (ltb 0 (nth t.claim j)) (ltb 0 (nth t.writebackclaim j))
-  taken_is = ds ∙ ap₂ (taken_of w) (ap (bit f.has) next ∙ kept.marked.has_at j) (ap (bit f.back) next ∙ kept.marked.back_at j)
+  taken_is = ds ∙ ap₂ (taken_of w) (ap (bit f.masks.has) next ∙ kept.marked.has_at j) (ap (bit f.masks.back) next ∙ kept.marked.back_at j)
 
   -- what is taken is there
   pub takes_claim : d.claim ≤ nth t.claim j
@@ -105,8 +106,8 @@ module _ {reclaimcap writebackcap : List ℕ} {f : Numbers} {t : Tables} {n : �
   pub takes_back : d.writebackclaim ≤ nth t.writebackclaim j
   takes_back = omega (arith, back_le (nth t.writebackclaim j) w, ap (λ (u : Taken). u.writebackclaim) taken_is)
 
-  reclaims : d.stock ≢ 0 → (bit f.may n ≡ true) × (0 < f.stock)
-  reclaims h = let b = stock_taken w (bit f.has n) (λ z. h (ap (λ (u : Taken). u.stock) ds ∙ z)) in fit.may_reclaim b.0 b.1
+  reclaims : d.stock ≢ 0 → (bit f.masks.may n ≡ true) × (0 < f.stock)
+  reclaims h = let b = stock_taken w (bit f.masks.has n) (λ z. h (ap (λ (u : Taken). u.stock) ds ∙ z)) in fit.may_reclaim b.0 b.1
 
   pub takes_stock : d.stock ≤ f.stock
   takes_stock = go (ℕ_discrete d.stock 0)
@@ -117,12 +118,12 @@ module _ {reclaimcap writebackcap : List ℕ} {f : Numbers} {t : Tables} {n : �
 
   -- reclaimed and writebacks that rise were below their caps
   was_below : d.stock ≢ 0 → nth t.reclaimed j ≢ nth reclaimcap j
-  was_below h = eqb-false _ _ (not-true _ (sym (kept.marked.may_at j) ∙ sym (ap (bit f.may) next) ∙ (reclaims h).0))
+  was_below h = eqb-false _ _ (not-true _ (sym (kept.marked.may_at j) ∙ sym (ap (bit f.masks.may) next) ∙ (reclaims h).0))
 
   had_room : d.writeback ≢ 0 → nth t.writebacks j ≢ nth writebackcap j
   had_room h =
       let b = written w (λ z. h (ap (λ (u : Taken). u.writeback) ds ∙ z)) in
-      eqb-false _ _ (not-true _ (sym (kept.marked.room_at j) ∙ sym (ap (bit f.room) next) ∙ fit.has_room b))
+      eqb-false _ _ (not-true _ (sym (kept.marked.room_at j) ∙ sym (ap (bit f.masks.room) next) ∙ fit.has_room b))
 
   module _ {r : Numbers} {t' : Tables} {steps : ℕ} {e : Bool} {row : Row} (shifted : Shifted t t' j d row)
       (renewed : Renewed f n steps d row e (nth reclaimcap j) (nth writebackcap j) r)

@@ -14,7 +14,7 @@ use Rattle.regulator.proofs.Laws.Adding.{small, claims_fit, adds}
 use Rattle.regulator.proofs.Laws.Keeping.{Kept as Sound, slot_next}
 use Rattle.engine.specs.Inner.{Given}
 use Rattle.engine.proofs.Laws.Rulings.{below_caps}
-use Rattle.kept.specs.Tables.{Tables}
+use Rattle.kept.specs.declared.tables.Tables.{Tables}
 use Rattle.kept.specs.Numbers.{Rest, state_of, Of, Kept, Ready}
 use Rattle.kept.specs.Deciding.{Decided}
 use Rattle.kept.specs.declared.numbers.Numbers.{Numbers}

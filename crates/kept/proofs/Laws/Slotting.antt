@@ -22,7 +22,7 @@ use Rattle.engine.specs.Inner.{Given, Marked, wait_at, free_at, pass_at, picked_
 use Rattle.engine.specs.declared.turn.Picked.{Picked}
 use Rattle.engine.proofs.Laws.Lowest.{lowest_asked}
 use Rattle.engine.proofs.Laws.Rulings.{blocked_is, passing_is, picked_is}
-use Rattle.kept.specs.Tables.{Tables}
+use Rattle.kept.specs.declared.tables.Tables.{Tables}
 use Rattle.kept.specs.Numbers.{Rest, state_of, Of, Kept, Ready}
 use Rattle.kept.specs.Grant.{Fit, Gives, rested, served}
 use Rattle.kept.specs.Deciding.{Decided}
@@ -31,10 +31,10 @@ use Rattle.kept.specs.declared.numbers.Numbers.{Numbers}
 -- What a slot has worked out before its grant: who waits on claim, whether the others are blocked, who passes, and who is picked.
 pub record Worked (period access writeback : ℕ) (f : Numbers) (wait : ℕ) (b : Bool) (m : ℕ) (g : Picked) : Type 0 where
   pub wait_small : wait < 131072
-  pub wait_bits : (n : ℕ) → bit wait n ≡ wait_at (bit access n) (bit writeback n) (bit f.has n) (bit f.back n)
+  pub wait_bits : (n : ℕ) → bit wait n ≡ wait_at (bit access n) (bit writeback n) (bit f.masks.has n) (bit f.masks.back n)
   pub block_is : b ≡ (leb period f.spoken && not (eqb wait 0))
   pub pass_bits : (n : ℕ) → bit m n
-      ≡ pass_at (bit wait n) (free_at (eqb n 0) (bit access n) (bit writeback n) (bit f.may n) (bit f.room n) (not (eqb f.stock 0))) b
+      ≡ pass_at (bit wait n) (free_at (eqb n 0) (bit access n) (bit writeback n) (bit f.masks.may n) (bit f.masks.room n) (not (eqb f.stock 0))) b
   pub pick_is : g ≡ picked_of m f.turn
 
 -- A domain that passes without writeback and without claim may reclaim, and there is stock; one that passes with a writeback has room, if
@@ -86,15 +86,15 @@ module _ {reclaimcap writebackcap : List ℕ} {f : Numbers} {t : Tables} {period
 
   -- domain n passes, and offers one kind at most
   module _ (n : ℕ) (lo : n ≢ 0) (passing : bit m n ≡ true) (apart : (bit access n && bit writeback n) ≡ false) where
-    passed : pass_at (wait_at (bit access n) (bit writeback n) (bit f.has n) (bit f.back n))
-        (free_at false (bit access n) (bit writeback n) (bit f.may n) (bit f.room n) (not (eqb f.stock 0))) b ≡ true
+    passed : pass_at (wait_at (bit access n) (bit writeback n) (bit f.masks.has n) (bit f.masks.back n))
+        (free_at false (bit access n) (bit writeback n) (bit f.masks.may n) (bit f.masks.room n) (not (eqb f.stock 0))) b ≡ true
     passed = rw (v.wait_bits n, ne_eqb n 0 lo) at (sym (v.pass_bits n) ∙ passing)
 
-    below : bit f.back n ≡ true → bit f.room n ≡ true
+    below : bit f.masks.back n ≡ true → bit f.masks.room n ≡ true
     below q =
         let i : n ≡ (n - 1) + 1 = omega (arith, lo) in
-        let c = ltb-true 0 _ (sym (kept.marked.back_at (n - 1)) ∙ sym (ap (bit f.back) i) ∙ q) in
-        ap (bit f.room) i ∙ kept.marked.room_at (n - 1) ∙ ap not (ne_eqb _ _ (ready.below (n - 1) c))
+        let c = ltb-true 0 _ (sym (kept.marked.back_at (n - 1)) ∙ sym (ap (bit f.masks.back) i) ∙ q) in
+        ap (bit f.masks.room) i ∙ kept.marked.room_at (n - 1) ∙ ap not (ne_eqb _ _ (ready.below (n - 1) c))
 
     unread : bit writeback n ≡ true → bit access n ≡ false
     unread e = go (bit access n) refl
@@ -107,10 +107,10 @@ module _ {reclaimcap writebackcap : List ℕ} {f : Numbers} {t : Tables} {period
     fits =
         record {
           may_reclaim = λ e h.
-              let r = reclaims (bit access n) (bit f.back n) (bit f.may n) (bit f.room n) (not (eqb f.stock 0)) b (rw (e, h) at passed) in
+              let r = reclaims (bit access n) (bit f.masks.back n) (bit f.masks.may n) (bit f.masks.room n) (not (eqb f.stock 0)) b (rw (e, h) at passed) in
               (r.0, not_zero f.stock r.1);
           has_room = λ e.
-              has_room (bit f.has n) (bit f.back n) (bit f.may n) (bit f.room n) (not (eqb f.stock 0)) b
+              has_room (bit f.masks.has n) (bit f.masks.back n) (bit f.masks.may n) (bit f.masks.room n) (not (eqb f.stock 0)) b
               (rw (e, unread e) at passed) below;
         }
 
@@ -119,7 +119,7 @@ module _ {reclaimcap writebackcap : List ℕ} {f : Numbers} {t : Tables} {period
     abbrev s : State
     s = state_of x f t
 
-    marked : Marked t.claim t.writebackclaim t.reclaimed t.writebacks x.plan.reclaimcap x.plan.writebackcap f.has f.back f.may f.room
+    marked : Marked t.claim t.writebackclaim t.reclaimed t.writebacks x.plan.reclaimcap x.plan.writebackcap f.masks.has f.masks.back f.masks.may f.masks.room
     marked = rw (of.reclaimcap_is, of.writebackcap_is) kept.marked
 
     held : (k : ℕ) → 0 < nth t.writebackclaim k → nth t.writebacks k ≢ nth x.plan.writebackcap k
@@ -129,11 +129,11 @@ module _ {reclaimcap writebackcap : List ℕ} {f : Numbers} {t : Tables} {period
     blocks =
         v.block_is
         ∙ ap₂ (λ (p q : ℕ). leb p q && not (eqb wait 0)) (sym of.period_is) kept.spoken_is
-        ∙ blocked_is s o access writeback f.has f.back f.may f.room given marked held wait v.wait_bits v.wait_small (omega (arith, of.period_is))
+        ∙ blocked_is s o access writeback f.masks.has f.masks.back f.masks.may f.masks.room given marked held wait v.wait_bits v.wait_small (omega (arith, of.period_is))
 
     picked : (g.number ≡ granted s o) × (g.steps ≡ steps_of s o)
     picked =
-        let pass = passing_is s o access writeback f.has f.back f.may f.room given marked held wait v.wait_bits m b blocks v.pass_bits in
+        let pass = passing_is s o access writeback f.masks.has f.masks.back f.masks.may f.masks.room given marked held wait v.wait_bits m b blocks v.pass_bits in
         let p = picked_is s o m (λ n h. pass n) ready.turn_small in
         (ap (λ (q : Picked). q.number) v.pick_is ∙ p.0, ap (λ (q : Picked). q.steps) v.pick_is ∙ p.1)
 

@@ -18,9 +18,8 @@ use Rattle.table.proofs.Lists.{has_nothing, has_side, has_either, Apart, apart_m
 use Rattle.plan.specs.Value.{plan_of, reserved_of}
 use Rattle.plan.specs.Records.{zeros, record_at, record_count, period_in, number_at}
 use Rattle.plan.specs.Chain.{link_of, link, fault, chain_of, domains_at, last_sum}
-use Rattle.plan.specs.Reading.{head_table, accepted_reading, earlier_table, accepted_of, read_plan, read_with_leftovers}
+use Rattle.plan.specs.Reading.{head_table, accepted_reading, earlier_table, accepted_of, read_plan, read_with_leftovers, Reading}
 use Rattle.plan.specs.Writing.{next_index}
-use Rattle.plan.specs.declared.reading.Reading.{Reading}
 use Rattle.plan.proofs.Laws.Sums.{sums_all}
 use Rattle.plan.proofs.Laws.Links.{fault_end}
 use Rattle.plan.proofs.Laws.Chains.{Leads, lead_end, lead_join, Takeable, Orderly, chain_is}

@@ -4,9 +4,11 @@ use mathlib.Core.Path.{◌≡◌, refl, sym, ap, ap₂, subst, ◌∙◌}
 use mathlib.Core.Logic.{◌≢◌}
 use mathlib.Core.Bool.{Bool, true, false, cond, not, ◌&&◌, false≢true}
 use mathlib.Core.List.{List, ◌++◌, map}
-use Prim.Native.Nat.{ℕ, ◌≤◌, ◌<◌}
+use Prim.Native.Nat.{ℕ, zero, suc, ◌≤◌, ◌<◌}
 use native.Mathlib.Omega.{arith}
-use lib.ListN.{get_or}
+use lib.ListN.{length, get_or}
+use Rattle.std.specs.Option.{MatchOption}
+use Rattle.std.specs.Prelude.{Option, Some, None}
 use lib.Dec.{eqb, leb, ltb}
 use borrow.Author.Tests.{eqb-true, eqb-false, leb-true, leb-false, le-leb, ltb-true}
 use Rattle.table.specs.Members.{has}
@@ -15,14 +17,14 @@ use Rattle.table.specs.Lines.{Line, first_of}
 use Rattle.table.proofs.Tables.{miss, hit, neg, unapplied, first_more, applied, never}
 use Rattle.table.proofs.Filling.{values_at}
 use Rattle.table.proofs.Searches.{none_at, lowest_is, lowest_some, some_all, some_at}
-use Rattle.plan.specs.Value.{Sized, plan_refusal, refusal}
+use Rattle.plan.specs.Value.{Sized, IsLowest, plan_refusal, refusal}
 use Rattle.plan.specs.Records.{zeros, record_at, record_count, period_in, number_at}
 use Rattle.plan.specs.Chain.{link_table, record_table, link, fault_at, fault, chain_of, last_sum}
-use Rattle.plan.specs.Reading.{head_table, refused_reading, earlier_table, leftover, leftover_line, accepted_of, read_plan, read_with_leftovers}
+use Rattle.plan.specs.Reading.{head_table, refused_reading, earlier_table, leftover, leftover_line, accepted_of, read_plan, read_with_leftovers, Reading}
 use Rattle.plan.specs.Walk.{seen_at}
 use Rattle.plan.specs.Leftovers.{EarlierOrTwelve, Left, TwelveForLeftovers}
 use Rattle.plan.specs.RoundTrip.{ReadIsAccepted}
-use Rattle.plan.specs.declared.reading.Reading.{Reading}
+use Rattle.plan.proofs.Laws.Values.{found_lowest}
 use Rattle.plan.proofs.Laws.Reading.{good, earlier_is_accepted}
 
 module _ (s : List ℕ) where
@@ -42,6 +44,31 @@ module _ (s : List ℕ) where
   unfolding leftover
   left_at seen i e low high =
       rw (le-leb 1 i low, e, values_at (λ (k : ℕ). has k (chain_of s)) false 64 i high)
+
+  -- the search of the records from 1 up, by their flags and bytes
+  module _ (seen : List Bool) where
+    abbrev pub Flagged : ℕ → Bool → Type 0
+    Flagged i b = (not (get_or seen i false) && not (zeros (record_at s i))) ≡ b
+
+    abbrev pub First : Option ℕ → Type 0
+    First r = MatchOption r
+        ((k : ℕ) → 1 ≤ k → k < record_count s → Flagged k false)
+        (λ i. (1 ≤ i) × (i < record_count s) × Flagged i true × ((k : ℕ) → 1 ≤ k → k < i → Flagged k false))
+
+    module _ (flags : seen ≡ seen_at (chain_of s)) (short : length s ≤ 1024) where
+      left : (i : ℕ) (b : Bool) → 1 ≤ i → i < record_count s → Flagged i b → leftover s i ≡ b
+      left i b low high e = left_at seen i flags low (omega arith) ∙ e
+
+      -- record 0 included
+      clean : (n : ℕ) → n ≤ record_count s → ((k : ℕ) → 1 ≤ k → k < n → Flagged k false) → (k : ℕ) → k < n → leftover s k ≡ false
+      clean n all h zero l = left_head
+      clean n all h (suc k) l = left (suc k) false (omega arith) (omega arith) (h (suc k) (omega arith) l)
+
+      pub left_lowest : (r : Option ℕ) → First r → IsLowest (leftover s) (record_count s) r
+      left_lowest (Some i) h =
+          found_lowest (leftover s) (record_count s) (Some i)
+          (omega arith, h.1, left i true h.0 h.1 h.2, λ k a b. clean i (omega (arith, h.1)) h.3 k b)
+      left_lowest None h = found_lowest (leftover s) (record_count s) None (λ k a b. clean (record_count s) (omega arith) h k b)
 
   -- what the earlier rule refuses is refused alike
   pub read_refused : (read_with_leftovers s).refused ≢ 0 → read_plan s ≡ read_with_leftovers s

@@ -16,7 +16,7 @@ use Rattle.plan.specs.Chain.{chain_of, AtMostSixteen, domains_in, sums_in}
 use Rattle.plan.specs.Walk.{sums_held, walked_of, not_walked, way_of}
 use Rattle.plan.specs.Reading.{head_table, refused_reading, way_table, accepted_of, read_with_leftovers}
 use Rattle.plan.specs.Sums.{sums_told, SumsArePlain, NoAnswerChanges}
-use Rattle.plan.specs.declared.chain.Walked.{Walked}
+use Rattle.plan.specs.Walk.{Walked}
 use Rattle.plan.proofs.Laws.Sums.{sums_length, sums_at_lem, sums_all}
 use Rattle.plan.proofs.Laws.Reading.{chain_held}
 

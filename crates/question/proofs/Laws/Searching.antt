@@ -1,6 +1,6 @@
 -- Laws of a search: what is told at each stage, one line, lines after lines, and the start.
 -- Assumes nothing.
-use mathlib.Core.Path.{◌≡◌, refl, sym, ap, subst, ◌∙◌}
+use mathlib.Core.Path.{◌≡◌, refl, sym, ap, ap₂, subst, ◌∙◌}
 use mathlib.Core.Logic.{◌≢◌}
 use mathlib.Core.Bool.{Bool, true, false, cond, false≢true}
 use mathlib.Core.List.{List, [], ◌++◌, append-nil}
@@ -11,19 +11,18 @@ use lib.ListN.{length, drop}
 use borrow.Author.Tests.{eq-eqb, ne_eqb}
 use Rattle.table.specs.Sums.{nth}
 use Rattle.table.proofs.Tables.{miss, hit}
-use Rattle.plan.specs.Value.{plan_refusal}
+use Rattle.plan.specs.Value.{plan_refusal, Refusal}
 use Rattle.plan.specs.Reading.{read_plan}
-use Rattle.plan.specs.declared.value.Refusal.{Refusal}
 use Rattle.plan.proofs.Laws.Leftovers.{read_is_accepted}
 use Rattle.regulator.specs.State.{Shaped, adds_up}
-use Rattle.regulator.specs.Calls.{open_plan, slot_of, yield_of}
+use Rattle.regulator.specs.Calls.{open_plan, slot_of, yield_of, Yielding}
 use Rattle.regulator.specs.Refusals.{slot_refusal}
 use Rattle.regulator.specs.declared.state.State.{State}
-use Rattle.regulator.specs.declared.close.Answer.{Answer}
-use Rattle.regulator.specs.declared.calls.Yielding.{Yielding}
+use Rattle.regulator.specs.Close.{Answer}
 use Rattle.regulator.proofs.Laws.Deciding.{slot_number}
 use Rattle.regulator.proofs.Laws.Keeping.{opening_taken, opening_adds_up}
 use Rattle.script.specs.Line.{Meaning, slot_line, yield_line, bad_line, meaning_of}
+use Rattle.script.specs.Text.{plan_refused_text}
 use Rattle.script.specs.Replay.{Script, split, Done, carried_out}
 use Rattle.script.specs.Feeding.{unended}
 use Rattle.script.specs.Inner.{LineEnd, open_end}
@@ -339,12 +338,17 @@ module _ (plan ask : List ℕ) (s : State) where
     abbrev Starts : Stage → Type 0
     Starts g = Started plan ask (begun g s slot n)
 
-    plan_refused : (read_plan plan).refused ≢ 0 → Starts (PlanRefused (read_plan plan).refused (read_plan plan).place)
+    -- the plan is refused
+    pub started_refused : (m k : ℕ) → m ≢ 0 → (read_plan plan).refused ≡ m → (read_plan plan).place ≡ k → Starts (PlanRefused m k)
     unfolding asked_text
-    plan_refused h =
-        let g = PlanRefused (read_plan plan).refused (read_plan plan).place in
+    started_refused m k h em ek =
+        let g = PlanRefused m k in
         record {
-          same = λ script. asked script ∙ miss _ _ _ (ne_eqb (read_plan plan).refused 0 h) ∙ sym (at_stage (begun g s slot n) g script refl);
+          same = λ script.
+              asked script
+              ∙ miss _ _ _ (ne_eqb (read_plan plan).refused 0 (λ z. h (sym em ∙ z)))
+              ∙ ap₂ plan_refused_text em ek
+              ∙ sym (at_stage (begun g s slot n) g script refl);
           sound = over_sound _ refl refl;
           none = refl;
         }
@@ -385,12 +389,10 @@ module _ (plan ask : List ℕ) (s : State) where
             none = refl;
           }
 
-    pub started_asked : s ≡ (open_plan (read_plan plan).plan).state
-        → Started plan ask (begun (first_stage slot (read_plan plan).refused (read_plan plan).place) s slot n)
+    pub started_asked : (read_plan plan).refused ≡ 0 → s ≡ (open_plan (read_plan plan).plan).state → Starts (first_stage slot)
     unfolding first_stage
-    started_asked es = go (ℕ_discrete (read_plan plan).refused 0) (ℕ_discrete slot 0)
+    started_asked h es = go (ℕ_discrete slot 0)
       where
-        go : Dec ((read_plan plan).refused ≡ 0) → Dec (slot ≡ 0) → Starts (first_stage slot (read_plan plan).refused (read_plan plan).place)
-        go (no h) z = subst Starts (sym (miss _ _ _ (ne_eqb _ 0 h))) (plan_refused h)
-        go (yes h) (yes z) = subst Starts (sym (hit _ _ _ (eq-eqb _ 0 h) ∙ hit _ _ _ (eq-eqb _ 0 z))) (slot_zero_asked h es z)
-        go (yes h) (no z) = subst Starts (sym (hit _ _ _ (eq-eqb _ 0 h) ∙ miss _ _ _ (ne_eqb _ 0 z))) (slot_asked h es z)
+        go : Dec (slot ≡ 0) → Starts (first_stage slot)
+        go (yes z) = subst Starts (sym (hit _ _ _ (eq-eqb _ 0 z))) (slot_zero_asked h es z)
+        go (no z) = subst Starts (sym (miss _ _ _ (ne_eqb _ 0 z))) (slot_asked h es z)

@@ -13,16 +13,14 @@ use borrow.Author.Tests.{eq-eqb, ne_eqb, lt-ltb, le-ltb}
 use Rattle.table.specs.Sums.{nth}
 use Rattle.table.proofs.Tables.{miss, hit}
 use Rattle.plan.specs.declared.value.Plan.{Plan}
-use Rattle.plan.specs.declared.value.Refusal.{Refusal}
+use Rattle.plan.specs.Value.{Refusal}
 use Rattle.regulator.specs.State.{yielding, handing}
 use Rattle.regulator.specs.Turn.{granted, steps_of, verdicts}
 use Rattle.regulator.specs.Grant.{on_claim, on_stock, on_neither, on_writeback, domain_grant, grant, onward, decided_of}
-use Rattle.regulator.specs.Close.{next_plan, without_counts, with_counts, ended}
+use Rattle.regulator.specs.Close.{next_plan, without_counts, with_counts, ended, Answer}
 use Rattle.regulator.specs.Refusals.{slot_refusal, yield_refusal, hand_refusal}
-use Rattle.regulator.specs.Calls.{one_slot, slot_of, verdicts_in, yield_of, hand_of}
+use Rattle.regulator.specs.Calls.{one_slot, slot_of, verdicts_in, yield_of, hand_of, Handing}
 use Rattle.regulator.specs.declared.state.State.{State}
-use Rattle.regulator.specs.declared.close.Answer.{Answer}
-use Rattle.regulator.specs.declared.calls.Handing.{Handing}
 
 -- the grant: of nobody, of best effort, of the domain at index j
 module _ (s : State) (o : List ℕ) where

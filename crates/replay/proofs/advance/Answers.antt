@@ -27,12 +27,12 @@ pub slice_bounds-feed-end : goal.slice_bounds-feed-end
 slice_bounds-feed-end g c = c.requires.part
 
 pub slice_bounds-feed-end-2 : goal.slice_bounds-feed-end-2
-slice_bounds-feed-end-2 g c = sym (length-take-le c.args.s.filled c.args.text.now c.requires.part)
+slice_bounds-feed-end-2 g c = sym (length-take-le c.args.s.part.filled c.args.text.now c.requires.part)
 
 pub feed-run-requires : goal.feed-run-requires
 feed-run-requires g c =
     let w = c.requires in
-    record { sound = w.sound; used_in_bounds = omega (arith, w, length-take-le c.args.s.filled c.args.text.now w.part) }
+    record { sound = w.sound; used_in_bounds = omega (arith, w, length-take-le c.args.s.part.filled c.args.text.now w.part) }
 
 pub returns-then-run-ne0 : goal.returns-then-run-ne0
 returns-then-run-ne0 g c = fed_within _ c.requires c.feed-run.ensures.fed

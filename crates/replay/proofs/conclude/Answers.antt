@@ -6,17 +6,17 @@ use lib.Seq.{length-take-le}
 use Rattle.script.proofs.Laws.Feeding.{shown_fits}
 use Rattle.replay.proofs.conclude.Goals as goal
 
-pub slice_bounds-write_all-end-then-s : goal.slice_bounds-write_all-end-then-s
-slice_bounds-write_all-end-then-s g c = sym (length-take-le c.args.s.run.at c.args.out.now c.requires.at)
+pub slice_bounds-write_all-end-then-eq : goal.slice_bounds-write_all-end-then-eq
+slice_bounds-write_all-end-then-eq g c = sym (length-take-le c.args.s.run.at c.args.out.now c.requires.at)
 
 pub slice_bounds-finish-end : goal.slice_bounds-finish-end
-slice_bounds-finish-end g c = sym (length-take-le c.args.s.filled c.args.text.now c.requires.part)
+slice_bounds-finish-end g c = sym (length-take-le c.args.s.part.filled c.args.text.now c.requires.part)
 
 pub finish-at-requires : goal.finish-at-requires
 finish-at-requires g c =
     record {
       sound = c.requires.sound;
-      used_in_bounds = omega (arith, c.requires, length-take-le c.args.s.filled c.args.text.now c.requires.part);
+      used_in_bounds = omega (arith, c.requires, length-take-le c.args.s.part.filled c.args.text.now c.requires.part);
     }
 
 -- what is shown then is within the buffer

@@ -1,11 +1,10 @@
 -- `replay::write_block` meets its contract.
 -- Assumes nothing.
-use mathlib.Core.Path.{sym, subst}
+use mathlib.Core.Path.{sym}
 use native.Mathlib.Omega.{arith}
 use lib.ListN.{length}
 use lib.Seq.{length-take-le}
 use Rattle.replay.specs.Buffers.{Within}
-use Rattle.script.specs.declared.feeding.Run.{Run}
 use borrow.Author.Rules.{rules}
 use Rattle.replay.proofs.write_block.Goals as goal
 
@@ -16,13 +15,10 @@ slice_bounds-write_all-end g c =
 
 pub returns : goal.returns
 returns g c =
-    let given : Within c.args.r c.args.filled c.args.room (length c.args.out.now) = search rules in
-    let a = c.args in
-    let w = given in
-    subst (λ (q : Run). Within q a.filled a.room (length a.out.now)) (sym c.placed-run.ensures)
-    (record {
+    let w = c.requires in
+    record {
       sound = record { adds = w.sound.adds; lines = w.sound.lines };
       used = w.used;
       part = w.part;
       at = omega arith;
-    })
+    }

@@ -1,6 +1,6 @@
 -- What a line that is carried out keeps, how many lines there can be, and how much one prints.
 -- Assumes nothing.
-use mathlib.Core.Path.{◌≡◌, refl, sym, ap, ◌∙◌}
+use mathlib.Core.Path.{◌≡◌, refl, sym, ap, subst, ◌∙◌}
 use mathlib.Core.Logic.{◌≢◌}
 use mathlib.Core.Bool.{Bool, true, false, cond}
 use mathlib.Core.List.{List, []}
@@ -10,27 +10,33 @@ use native.Mathlib.Omega.{arith}
 use lib.ListN.{length, drop}
 use Rattle.table.specs.Sums.{sum}
 use Rattle.table.proofs.Elements.{raised_sum}
-use Rattle.table.proofs.Tables.{miss, hit}
 use Rattle.regulator.specs.State.{Shaped, adds_up}
 use Rattle.regulator.specs.Turn.{granted, steps_of}
 use Rattle.regulator.specs.Grant.{decided_of}
-use Rattle.regulator.specs.Close.{next_period, ended, counts_of}
+use Rattle.regulator.specs.Close.{next_period, ended, counts_of, Answer}
 use Rattle.regulator.specs.Refusals.{slot_refusal, yield_refusal}
-use Rattle.regulator.specs.Calls.{slot_of, yield_of}
+use Rattle.regulator.specs.Calls.{slot_of, yield_of, Yielding}
 use Rattle.regulator.specs.declared.state.State.{State}
-use Rattle.regulator.specs.declared.close.Answer.{Answer}
-use Rattle.regulator.specs.declared.calls.Yielding.{Yielding}
 use Rattle.plan.specs.declared.value.Plan.{Plan}
 use Rattle.regulator.proofs.Laws.Adding.{Adds, adds, small, yielded_fit}
 use Rattle.regulator.proofs.Laws.Refusing.{slot_taken, yield_taken}
 use Rattle.regulator.proofs.Laws.Deciding.{ended_open, ended_complete, slot_refused, slot_decided, slot_number, yield_number, yield_given}
 use Rattle.regulator.proofs.Laws.Keeping.{Next, slot_next, slot_keeps, yield_keeps}
 use Rattle.script.specs.Line.{Meaning, slot_line, yield_line, bad_line, slot_meaning, is_slot, offers_of, value_of, before, behind, yield_meaning, is_yield, begins, meaning_of}
-use Rattle.script.specs.Replay.{carried_out}
+use Rattle.script.specs.Replay.{Done, carried_out}
 use Rattle.script.specs.Feeding.{lines_before, line_room}
-use Rattle.script.specs.Output.{output, put}
+use Rattle.script.specs.Output.{Output, put}
 use Rattle.script.specs.Text.{period_text}
-use Rattle.script.specs.Inner.{Stepped}
+use Rattle.std.specs.Prelude.{Some, None, Result, Ok, Err}
+use Rattle.regulator.specs.Close.{told_slot}
+use Rattle.regulator.specs.Calls.{answer_by, yielding_by}
+use Rattle.regulator.specs.declared.close.Slot.{Slot}
+use Rattle.regulator.specs.declared.close.Counts.{Counts}
+use Rattle.regulator.specs.declared.faults.SlotFault.{SlotFault}
+use Rattle.regulator.specs.declared.faults.YieldFault.{YieldFault}
+use Rattle.regulator.proofs.Laws.Telling.{slot_numbered, yield_numbered}
+use Rattle.script.specs.Inner.{line_number, refused_by, state_by, Stepped}
+use Rattle.script.specs.declared.carrying.LineFault.{LineFault}
 use Rattle.script.proofs.Laws.Putting.{put_none}
 use Rattle.script.proofs.Laws.Lengths.{CountsFit, period_long}
 
@@ -117,39 +123,67 @@ refused_silent s (slot_line o) e =
 refused_silent s (yield_line d k) e = refl
 refused_silent s (bad_line n) e = refl
 
--- A slot call's answer, as the step of its line: with the period that it closed, or with none.
-module _ (s : State) (o : List ℕ) (a : Answer) (e : a ≡ slot_of s o 17) (before : List ℕ) (at : ℕ) where
-  pub slot_prints : cond a.complete (period_text s.plan a.state.closed a.counts) [] ≡ (carried_out s (slot_line o)).prints
+-- A slot call's answer, as the step of its line: with the period that it closed, with none, or refused.
+module _ (s : State) (o : List ℕ) where
+  pub slot_prints : (a : Answer) → a ≡ slot_of s o 17 → cond a.complete (period_text s.plan a.state.closed a.counts) [] ≡ (carried_out s (slot_line o)).prints
   unfolding carried_out
-  slot_prints = ap (λ (b : Answer). cond b.complete (period_text s.plan b.state.closed b.counts) []) e
+  slot_prints a e = ap (λ (b : Answer). cond b.complete (period_text s.plan b.state.closed b.counts) []) e
 
-  slot_step : (after : List ℕ) (n : ℕ) → output after n ≡ put (output before at) (carried_out s (slot_line o)).prints
-      → Stepped (carried_out s (slot_line o)) before at (record { refused = a.refused; state = a.state; at = n }) after
+  slot_step : (a : Answer) → a ≡ slot_of s o 17 → (r : Result State LineFault) → refused_by r ≡ a.refused → state_by s r ≡ a.state
+      → (before after : Output) → after ≡ put before (cond a.complete (period_text s.plan a.state.closed a.counts) [])
+      → Stepped (carried_out s (slot_line o)) s r before after
   unfolding carried_out
-  slot_step after n shown = record { refused = ap (λ (b : Answer). b.refused) e; state = ap (λ (b : Answer). b.state) e; shown = shown }
+  slot_step a e r number next before after shown =
+      record {
+        number = number ∙ ap (λ (b : Answer). b.refused) e;
+        next = next ∙ ap (λ (b : Answer). b.state) e;
+        shown = shown ∙ ap (put before) (slot_prints a e);
+      }
 
-  pub step_period : (after : List ℕ) (n : ℕ) → a.complete ≡ true
-      → output after n ≡ put (output before at) (period_text s.plan a.state.closed a.counts)
-      → Stepped (carried_out s (slot_line o)) before at (record { refused = a.refused; state = a.state; at = n }) after
-  step_period after n c shown = slot_step after n (shown ∙ ap (put (output before at)) (sym (hit _ _ _ c) ∙ slot_prints))
+  pub step_period : (d : Slot) → answer_by s (Ok d) ≡ slot_of s o 17 → (c : Counts) → d.counts ≡ Some c
+      → (before after : Output) → after ≡ put before (period_text s.plan d.state.closed c)
+      → Stepped (carried_out s (slot_line o)) s (Ok d.state) before after
+  step_period d e c h = slot_step (told_slot d.state d.steps (Some c)) (ap (told_slot d.state d.steps) (sym h) ∙ e) (Ok d.state) refl refl
 
-  pub step_silent : a.complete ≡ false
-      → Stepped (carried_out s (slot_line o)) before at (record { refused = a.refused; state = a.state; at = at }) before
-  step_silent c = slot_step before at (sym (put_none (output before at)) ∙ ap (put (output before at)) (sym (miss _ _ _ c) ∙ slot_prints))
+  pub step_silent : (d : Slot) → answer_by s (Ok d) ≡ slot_of s o 17 → d.counts ≡ None → (before : Output)
+      → Stepped (carried_out s (slot_line o)) s (Ok d.state) before before
+  step_silent d e h before =
+      slot_step (told_slot d.state d.steps None) (ap (told_slot d.state d.steps) (sym h) ∙ e) (Ok d.state) refl refl before before (sym (put_none before))
 
-pub step_yield : (s : State) (d k : ℕ) (y : Yielding) → y ≡ yield_of s d k → (before : List ℕ) (at : ℕ)
-    → Stepped (carried_out s (yield_line d k)) before at (record { refused = y.refused; state = y.state; at = at }) before
+  pub step_refused : (e : SlotFault) → answer_by s (Err e) ≡ slot_of s o 17 → (before : Output)
+      → Stepped (carried_out s (slot_line o)) s (Err (LineFault.Slot e)) before before
+  step_refused e h before = slot_step (answer_by s (Err e)) h (Err (LineFault.Slot e)) refl refl before before (sym (put_none before))
+
+-- A yield's answer, and a line of neither form.
+module _ (s : State) (d k : ℕ) (before : Output) where
+  yield_step : (y : Yielding) → y ≡ yield_of s d k → (r : Result State LineFault) → refused_by r ≡ y.refused → state_by s r ≡ y.state
+      → Stepped (carried_out s (yield_line d k)) s r before before
+  unfolding carried_out
+  yield_step y e r number next =
+      record {
+        number = number ∙ ap (λ (b : Yielding). b.refused) e;
+        next = next ∙ ap (λ (b : Yielding). b.state) e;
+        shown = sym (put_none before);
+      }
+
+  pub step_yield : (t : State) → yielding_by s (Ok t) ≡ yield_of s d k → Stepped (carried_out s (yield_line d k)) s (Ok t) before before
+  step_yield t e = yield_step (yielding_by s (Ok t)) e (Ok t) refl refl
+
+  pub step_no_yield : (e : YieldFault) → yielding_by s (Err e) ≡ yield_of s d k → Stepped (carried_out s (yield_line d k)) s (Err (LineFault.Yield e)) before before
+  step_no_yield e h = yield_step (yielding_by s (Err e)) h (Err (LineFault.Yield e)) refl refl
+
+pub step_bad : (s : State) (n : ℕ) → n ≡ 41 → (before : Output) → Stepped (carried_out s (bad_line n)) s (Err LineFault.Form) before before
 unfolding carried_out
-step_yield s d k y e before at =
-    record {
-      refused = ap (λ (b : Yielding). b.refused) e;
-      state = ap (λ (b : Yielding). b.state) e;
-      shown = sym (put_none (output before at));
-    }
+step_bad s n e before = record { number = sym e; next = refl; shown = sym (put_none before) }
 
-pub step_bad : (s : State) (n : ℕ) (before : List ℕ) (at : ℕ) → Stepped (carried_out s (bad_line n)) before at (record { refused = n; state = s; at = at }) before
-unfolding carried_out
-step_bad s n before at = record { refused = refl; state = refl; shown = sym (put_none (output before at)) }
+pub stepped_as : {d : Done} {s : State} {r q : Result State LineFault} {before after : Output} → r ≡ q → Stepped d s r before after → Stepped d s q before after
+stepped_as {d} {s} {before = before} {after = after} e t = subst (λ (q : Result State LineFault). Stepped d s q before after) e t
+
+-- no line is refused with 0
+pub line_numbered : (e : LineFault) → line_number e ≢ 0
+line_numbered LineFault.Form z = absurd (omega arith)
+line_numbered (LineFault.Slot e) z = slot_numbered e z
+line_numbered (LineFault.Yield e) z = yield_numbered e z
 
 -- What a line prints fits in the room that is kept for it.
 module _ (s : State) (shape : Shaped s) (sound : adds_up s ≡ true) (few : s.closed < 4294967296) where

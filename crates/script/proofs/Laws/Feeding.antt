@@ -1,6 +1,6 @@
 -- Laws of a run that is fed a part of a script: no line, one line, lines after lines, and the end.
 -- Assumes nothing.
-use mathlib.Core.Path.{◌≡◌, refl, sym, ap, ap₂, ◌∙◌}
+use mathlib.Core.Path.{◌≡◌, refl, sym, ap, ap₂, subst, ◌∙◌}
 use mathlib.Core.Logic.{◌≢◌}
 use mathlib.Core.Bool.{true, false, cond}
 use mathlib.Core.List.{List, [], ◌++◌, append_assoc, append-nil}
@@ -13,9 +13,8 @@ use lib.Seq.{take_all}
 use borrow.Author.Tests.{eqb-true, ltb-true, ltb-false, eq-eqb, ne_eqb}
 use Rattle.table.specs.Sums.{nth}
 use Rattle.table.proofs.Tables.{miss, hit, and_both}
-use Rattle.plan.specs.Value.{plan_refusal}
+use Rattle.plan.specs.Value.{plan_refusal, Refusal}
 use Rattle.plan.specs.Reading.{read_plan}
-use Rattle.plan.specs.declared.value.Refusal.{Refusal}
 use Rattle.plan.proofs.Laws.Leftovers.{read_is_accepted}
 use Rattle.regulator.specs.State.{Shaped, adds_up}
 use Rattle.regulator.specs.Calls.{open_plan}
@@ -24,16 +23,23 @@ use Rattle.regulator.proofs.Laws.Adding.{adds, yielded_fit}
 use Rattle.regulator.proofs.Laws.Keeping.{opening_taken, opening_adds_up}
 use Rattle.script.specs.Line.{meaning_of}
 use Rattle.script.specs.Text.{header, open_text, plan_refused_text, line_refused_text}
-use Rattle.script.specs.Replay.{Script, split, Done, carried_out, lines_text, replay_text}
+use Rattle.script.specs.Replay.{Script, split, Done, carried_out, lines_text, Opened, replay_text}
 use Rattle.script.specs.Output.{Output, output, put}
 use Rattle.script.specs.Feeding.{rest_text, lines_before, Sound, unended, lacks_room, line_room, Fed, Started}
-use Rattle.script.specs.Inner.{Stepped, LineEnd, open_end}
+use Rattle.std.specs.Prelude.{Result, Ok, Err}
+use Rattle.plan.specs.Reading.{Reading, reading_by}
+use Rattle.plan.specs.declared.value.Plan.{Plan}
+use Rattle.plan.specs.declared.refusal.Refused.{Refused}
+use Rattle.regulator.specs.Calls.{Opening, opening_by}
+use Rattle.regulator.specs.declared.faults.HandFault.{HandFault}
+use Rattle.regulator.proofs.Laws.Telling.{hand_numbered}
+use Rattle.script.specs.Inner.{line_number, Stepped, LineEnd, open_end}
+use Rattle.script.specs.declared.carrying.LineFault.{LineFault}
 use Rattle.script.specs.declared.feeding.Run.{Run}
-use Rattle.script.specs.declared.carrying.Step.{Step}
 use Rattle.script.proofs.Laws.Lengths.{header_long, plan_refused_long, line_refused_long}
 use Rattle.script.proofs.Laws.Putting.{put_none, put_put, put_next, put_count, put_length}
 use Rattle.script.proofs.Laws.Splitting.{split_none, line_in, Ending, by_ten, by_length, ending, split_front, split_long, text_line, text_refused, text_end, text_last, text_long, bad_refused}
-use Rattle.script.proofs.Laws.Carrying.{line_taken, refused_silent, prints_short}
+use Rattle.script.proofs.Laws.Carrying.{line_taken, refused_silent, prints_short, line_numbered}
 
 module _ (r : Run) (script : List ℕ) where
   pub rest_on : r.refused ≡ 0 → rest_text r script ≡ lines_text r.state r.line (split script).lines (split script).last
@@ -83,6 +89,16 @@ fed_then part room r b q c w d f g =
       within = g.within;
     }
 
+-- the lent buffer, back from the text that it was lent to
+pub fed_back : {part : List ℕ} {room : ℕ} {r : Run} {b : List ℕ} {q : Run} {c d : List ℕ} → c ≡ d → Fed part room r b q c → Fed part room r b q d
+fed_back {part} {room} {r} {b} {q} e f = subst (Fed part room r b q) e f
+
+pub started_back : {plan : List ℕ} {b : List ℕ} {q : Run} {c d : List ℕ} → c ≡ d → Started plan b q c → Started plan b q d
+started_back {plan} {b} {q} e f = subst (Started plan b q) e f
+
+pub shown_back : {c d : List ℕ} {n : ℕ} {o : Output} → c ≡ d → output c n ≡ o → output d n ≡ o
+shown_back {n = n} {o = o} e f = subst (λ (b : List ℕ). output b n ≡ o) e f
+
 -- One line.
 module _ (r : Run) (part : List ℕ) (end : ℕ) (ends : LineEnd part r.used end) (shut : open_end r.used end (length part) ≡ false)
     (live : r.refused ≡ 0) where
@@ -128,63 +144,65 @@ module _ (r : Run) (part : List ℕ) (end : ℕ) (ends : LineEnd part r.used end
 
   -- A line that was taken, and lost nothing of what it prints, takes the run on.
   module _ (sound : Sound r) (shape : Shaped r.state) (room : ℕ) (before : List ℕ)
-      (x : Step) (after : List ℕ) (step : Stepped done before r.at x after) where
-    pub fed_on : x.refused ≡ 0 → (line_room ≤ room → r.at ≤ length before → x.at ≡ r.at + length done.prints)
-        → Fed part room r before (record { state = x.state; line = r.line + 1; refused = 0; used = end + 1; at = x.at }) after
-    fed_on e whole =
-        let z : done.refused ≡ 0 = sym step.refused ∙ e in
+      (next : State) (at : ℕ) (after : List ℕ) (step : Stepped done r.state (Ok next) (output before r.at) (output after at)) where
+    pub fed_on : (line_room ≤ room → r.at ≤ length before → at ≡ r.at + length done.prints)
+        → Fed part room r before (record { state = next; line = r.line + 1; refused = 0; used = end + 1; at = at }) after
+    fed_on whole =
+        let z : done.refused ≡ 0 = sym step.number in
         let t = line_taken r.state shape (sound.adds live) line z in
-        let to : Run = record { state = x.state; line = r.line + 1; refused = 0; used = end + 1; at = x.at } in
+        let to : Run = record { state = next; line = r.line + 1; refused = 0; used = end + 1; at = at } in
         record {
           text = done.prints;
           shown = step.shown;
           rest = λ later.
               text_taken z later
-              ∙ ap (λ (s : State). done.prints ++ lines_text s (r.line + 1) (split (drop (end + 1) part ++ later)).lines (split (drop (end + 1) part ++ later)).last) (sym step.state)
+              ∙ ap (λ (s : State). done.prints ++ lines_text s (r.line + 1) (split (drop (end + 1) part ++ later)).lines (split (drop (end + 1) part ++ later)).last) (sym step.next)
               ∙ ap (λ (l : List ℕ). done.prints ++ l) (sym (rest_on to (drop (end + 1) part ++ later) refl));
           whole = whole;
           sound =
               record {
-                adds = λ y. ap adds_up step.state ∙ t.adds;
-                lines = λ y. omega (arith, sound.lines live, t.lines, ap lines_before step.state);
+                adds = λ y. ap adds_up step.next ∙ t.adds;
+                lines = λ y. omega (arith, sound.lines live, t.lines, ap lines_before step.next);
               };
           within = omega (arith, (taken_ten z).0);
         }
 
   -- Where room is free: a line that was taken, and one that was refused.
   module _ (sound : Sound r) (shape : Shaped r.state) (few : r.state.closed < 4294967296) (room : ℕ)
-      (before : List ℕ) (free : lacks_room r.at (length before) room ≡ false)
-      (x : Step) (after : List ℕ) (step : Stepped done before r.at x after) where
-    pub fed_taken : x.refused ≡ 0
-        → Fed part room r before (record { state = x.state; line = r.line + 1; refused = 0; used = end + 1; at = x.at }) after
-    fed_taken e =
-        fed_on sound shape room before x after step e
+      (before : List ℕ) (free : lacks_room r.at (length before) room ≡ false) where
+    pub fed_taken : (next : State) (at : ℕ) (after : List ℕ) → Stepped done r.state (Ok next) (output before r.at) (output after at)
+        → Fed part room r before (record { state = next; line = r.line + 1; refused = 0; used = end + 1; at = at }) after
+    fed_taken next at after step =
+        fed_on sound shape room before next at after step
         (λ k h.
-        let count = shown_count after before done.prints x.at r.at step.shown h in
+        let count = shown_count after before done.prints at r.at step.shown h in
         let most = prints_short r.state shape (sound.adds live) few (meaning_of line) in
         omega (arith, count, ltb-false (length before - r.at) room free, most))
 
-    pub fed_refused : (last : List ℕ) (n : ℕ) → x.refused ≢ 0 → x.refused < 256 → r.line < 18446744073709551616
-        → output last n ≡ put (output after x.at) (line_refused_text r.line x.refused)
-        → Fed part room r before (record { state = x.state; line = r.line; refused = x.refused; used = end; at = n }) last
-    fed_refused last n e small fits told =
-        let z : done.refused ≢ 0 = λ y. e (step.refused ∙ y) in
-        let t = line_refused_text r.line x.refused in
-        let to : Run = record { state = x.state; line = r.line; refused = x.refused; used = end; at = n } in
-        let silent : output after x.at ≡ output before r.at =
+    pub fed_refused : (fault : LineFault) (at : ℕ) (after : List ℕ) → Stepped done r.state (Err fault) (output before r.at) (output after at)
+        → (n : ℕ) → n ≡ line_number fault → n < 256 → r.line < 18446744073709551616
+        → (last : List ℕ) (m : ℕ) → output last m ≡ put (output after at) (line_refused_text r.line n)
+        → Fed part room r before (record { state = r.state; line = r.line; refused = n; used = end; at = m }) last
+    fed_refused fault at after step n is small fits last m told =
+        let e : n ≢ 0 = λ y. line_numbered fault (sym is ∙ y) in
+        let told_by : n ≡ done.refused = is ∙ step.number in
+        let z : done.refused ≢ 0 = λ y. e (told_by ∙ y) in
+        let t = line_refused_text r.line n in
+        let to : Run = record { state = r.state; line = r.line; refused = n; used = end; at = m } in
+        let silent : output after at ≡ output before r.at =
         step.shown ∙ ap (put (output before r.at)) (refused_silent r.state (meaning_of line) z) ∙ put_none (output before r.at) in
-        let shown : output last n ≡ put (output before r.at) t = told ∙ ap (λ (o : Output). put o t) silent in
+        let shown : output last m ≡ put (output before r.at) t = told ∙ ap (λ (o : Output). put o t) silent in
         record {
           text = t;
           shown = shown;
           rest = λ later.
               text_over z later
-              ∙ ap (line_refused_text r.line) (sym step.refused)
+              ∙ ap (line_refused_text r.line) (sym told_by)
               ∙ sym (append-nil t)
               ∙ ap (λ (l : List ℕ). t ++ l) (sym (rest_over to (drop end part ++ later) e));
           whole = λ k h.
-              let count = shown_count last before t n r.at shown h in
-              omega (arith, count, ltb-false (length before - r.at) room free, line_refused_long r.line x.refused fits small);
+              let count = shown_count last before t m r.at shown h in
+              omega (arith, count, ltb-false (length before - r.at) room free, line_refused_long r.line n fits small);
           sound = record { adds = λ y. absurd (e y); lines = λ y. absurd (e y) };
           within = ends.high;
         }
@@ -214,6 +232,25 @@ module _ (r : Run) (live : r.refused ≡ 0) (rest : List ℕ) (clear : unended r
 
   pub ends_refused : 1 ≤ length rest → rest_text r rest ≡ line_refused_text r.line 41
   ends_refused h = ends_with ∙ text_last r.state r.line rest h
+
+-- A plan file that is opened: one that is read is not refused by opening.
+pub opened_read : (plan : List ℕ) (p : Plan) → reading_by (Ok p) ≡ read_plan plan → (r : Result State Refused) → opening_by r ≡ open_plan p → Opened plan r
+opened_read plan p h r o = go r o
+  where
+    z : (read_plan plan).refused ≡ 0
+    z = sym (ap (λ (x : Reading). x.refused) h)
+
+    same : p ≡ (read_plan plan).plan
+    same = ap (λ (x : Reading). x.plan) h
+
+    go : (r : Result State Refused) → opening_by r ≡ open_plan p → Opened plan r
+    go (Ok s) o = (z, ap (λ (x : Opening). x.state) (o ∙ ap open_plan same))
+    go (Err e) o =
+        let taken : (plan_refusal (read_plan plan).plan).refused ≡ 0 = ap (λ (x : Refusal). x.refused) (read_is_accepted plan z).1 in
+        absurd (hand_numbered (HandFault.Plan e) (ap (λ (x : Opening). x.refused) (o ∙ ap open_plan same) ∙ opening_taken (read_plan plan).plan taken))
+
+pub opened_as : (plan : List ℕ) {r q : Result State Refused} → r ≡ q → Opened plan r → Opened plan q
+opened_as plan e o = subst (Opened plan) e o
 
 -- The start: a plan that is refused, and one that is not.
 module _ (plan before after : List ℕ) (m : ℕ) where

@@ -19,9 +19,10 @@ use Rattle.table.proofs.Filling.{values_length, values_at}
 use Rattle.regulator.specs.State.{Shaped, adds_up}
 use Rattle.regulator.specs.Turn.{granted, steps_of}
 use Rattle.regulator.specs.Grant.{decided_of}
-use Rattle.regulator.specs.Close.{without_counts, ended}
+use Rattle.std.specs.Prelude.{None, Ok}
+use Rattle.regulator.specs.Close.{without_counts, slot_by, ended, Answer}
+use Rattle.regulator.specs.declared.close.Slot.{Slot}
 use Rattle.regulator.specs.declared.state.State.{State}
-use Rattle.regulator.specs.declared.close.Answer.{Answer}
 use Rattle.regulator.proofs.Laws.Adding.{adds}
 use Rattle.regulator.proofs.Laws.Deciding.{ended_open, ended_complete, slot_decided, slot_number}
 use Rattle.regulator.proofs.Laws.Keeping.{slot_next}
@@ -29,9 +30,9 @@ use Rattle.slots.specs.Lines.{line_bytes, offers_at, SlotLine, after_slots, Deci
 use Rattle.script.specs.Line.{is_digit, digits_only, Meaning, slot_line, offers_of, meaning_of}
 use Rattle.script.specs.Replay.{carried_out}
 use Rattle.script.specs.Feeding.{Sound, unended, Fed}
+use Rattle.script.specs.Output.{output}
 use Rattle.script.specs.Inner.{Stepped, at_ten, LineEnd, open_end}
 use Rattle.script.specs.declared.feeding.Run.{Run}
-use Rattle.script.specs.declared.carrying.Step.{Step}
 use Rattle.script.proofs.Laws.Reading.{slot_is, slot_good, line_slot, offers_length, offers_at_lem}
 use Rattle.script.proofs.Laws.Carrying.{slot_prints, step_silent}
 use Rattle.script.proofs.Laws.Feeding.{fed_none, fed_then, fed_on}
@@ -129,14 +130,13 @@ module _ (part : List ℕ) (room : ℕ) (b : List ℕ) (r : Run) (live : r.refus
   plain_fed : Fed part room r b (record { state = t; line = r.line + 1; refused = 0; used = r.used + 19 + 1; at = r.at }) b
   plain_fed =
       let o = offers_at part (r.used + 2) in
-      let a : Answer = without_counts 0 t (steps_of r.state o) in
-      let x : Step = record { refused = 0; state = t; at = r.at } in
+      let d' : Slot = record { state = t; counts = None; steps = steps_of r.state o } in
       let e = plain_meaning part r.used fits l in
       let none : length (carried_out r.state (meaning_of (line part r.used fits l))).prints ≡ 0 =
-      ap (λ (m : Meaning). length (carried_out r.state m).prints) e ∙ ap length (sym (slot_prints r.state o a (sym d) b r.at)) in
-      fed_on r part (r.used + 19) (plain_ends part r.used fits l) (plain_shut part r.used fits l) live sound shape room b x b
-      (subst (λ (m : Meaning). Stepped (carried_out r.state m) b r.at x b) (sym e) (step_silent r.state o a (sym d) b r.at refl))
-      refl (λ k h. omega (arith, none))
+      ap (λ (m : Meaning). length (carried_out r.state m).prints) e ∙ ap length (sym (slot_prints r.state o (slot_by d') (sym d))) in
+      fed_on r part (r.used + 19) (plain_ends part r.used fits l) (plain_shut part r.used fits l) live sound shape room b t r.at b
+      (subst (λ (m : Meaning). Stepped (carried_out r.state m) r.state (Ok t) (output b r.at) (output b r.at)) (sym e) (step_silent r.state o d' (sym d) refl (output b r.at)))
+      (λ k h. omega (arith, none))
 
 -- So many of them take it on to the place behind them.
 module _ (part : List ℕ) (room : ℕ) (b : List ℕ) (r : Run) (live : r.refused ≡ 0) (sound : Sound r) (shape : Shaped r.state)

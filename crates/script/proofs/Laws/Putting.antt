@@ -1,6 +1,6 @@
 -- Laws of text that goes to a lent buffer: text after text, and what the buffer holds.
 -- Assumes nothing.
-use mathlib.Core.Path.{◌≡◌, refl, sym, ap, ap₂, ◌∙◌}
+use mathlib.Core.Path.{◌≡◌, refl, sym, ap, ap₂, subst, ◌∙◌}
 use mathlib.Core.Bool.{Bool, true, false, cond}
 use mathlib.Core.List.{List, [], ◌∷◌, ◌++◌, append_assoc, append-nil}
 use Prim.Native.Nat.{ℕ, ◌+◌, ◌≤◌, ◌<◌, min}
@@ -15,16 +15,13 @@ use Rattle.table.proofs.Tables.{miss, hit}
 use Rattle.table.specs.Sums.{nth}
 use Rattle.plan.specs.declared.value.Plan.{Plan}
 use Rattle.regulator.specs.declared.close.Counts.{Counts}
-use Rattle.script.specs.Text.{domain_text, domains_text}
-use Rattle.script.specs.Output.{Output, output, put_byte, put, holding}
+use Rattle.script.specs.Text.{decimal, field, domain_text, domains_text}
+use Rattle.script.specs.Output.{Output, output, put_byte, put, shown, Puts, holding}
+use Rattle.script.specs.declared.output.Text.{Text}
 
 pub put_none : (o : Output) → put o [] ≡ o
 unfolding put
 put_none o = refl
-
-pub put_first : (o : Output) (b : ℕ) (t : List ℕ) → put o (b ∷ t) ≡ put (put_byte o b) t
-unfolding put
-put_first o b t = refl
 
 pub put_one : (o : Output) (b : ℕ) → put o (b ∷ []) ≡ put_byte o b
 unfolding put
@@ -38,6 +35,23 @@ put_put o (b ∷ t) u = put_put (put_byte o b) t u
 
 pub put_next : (o p : Output) (t u : List ℕ) → p ≡ put o t → put p u ≡ put o (t ++ u)
 put_next o p t u e = ap (λ (x : Output). put x u) e ∙ put_put o t u
+
+-- the same of the struct of the code: no text, one text and then another, and a text that is the same
+pub puts_none : (t : Text) → Puts t t []
+puts_none t = record { same = refl; more = sym (put_none (shown t)) }
+
+pub puts_then : {t u v : Text} {a b : List ℕ} → Puts t u a → Puts u v b → Puts t v (a ++ b)
+puts_then {t} {u} {v} {a} {b} p q = record { same = q.same ∙ p.same; more = q.more ∙ put_next (shown t) (shown u) a b p.more }
+
+pub puts_as : {t u : Text} {a b : List ℕ} → a ≡ b → Puts t u a → Puts t u b
+puts_as {t} {u} e p = subst (Puts t u) e p
+
+-- a number that was widened
+pub puts_number : {t u : Text} {k n : ℕ} → k ≡ n → Puts t u (decimal k) → Puts t u (decimal n)
+puts_number e p = puts_as (ap decimal e) p
+
+pub puts_field : {t u : Text} {mark k n : ℕ} → k ≡ n → Puts t u (field mark k) → Puts t u (field mark n)
+puts_field {mark = mark} e p = puts_as (ap (field mark) e) p
 
 -- a byte, where the buffer has its place, and where it has not
 pub byte_fits : (b : List ℕ) (c x : ℕ) → c < length b → put_byte (output b c) x ≡ output (set b c x) (c + 1)
@@ -139,6 +153,21 @@ pub domains_more : (p : Plan) (c : Counts) (j : ℕ)
     (domain_text (j + 1) (nth c.reserved j) (nth c.reclaimed j) (nth c.yielded j) (nth c.writebacks j)) []
 unfolding domains_text
 domains_more p c j = ap (domains_text p c) (add-one j)
+
+-- a planned domain, whose counts are put, and one that is not planned
+module _ (p : Plan) (c : Counts) (j : ℕ) where
+  abbrev counts_text : List ℕ
+  counts_text = domain_text (j + 1) (nth c.reserved j) (nth c.reclaimed j) (nth c.yielded j) (nth c.writebacks j)
+
+  pub domain_put : {t u v : Text} → get_or p.planned j false ≡ true → Puts t u (domains_text p c j) → Puts u v counts_text → Puts t v (domains_text p c (j + 1))
+  domain_put h a b =
+      puts_as (ap (λ (t : List ℕ). domains_text p c j ++ t) (sym (hit (get_or p.planned j false) counts_text [] h)) ∙ sym (domains_more p c j)) (puts_then a b)
+
+  pub domain_left : {t u : Text} → get_or p.planned j false ≡ false → Puts t u (domains_text p c j) → Puts t u (domains_text p c (j + 1))
+  domain_left h a =
+      puts_as (sym (append-nil (domains_text p c j))
+      ∙ ap (λ (t : List ℕ). domains_text p c j ++ t) (sym (miss (get_or p.planned j false) counts_text [] h))
+      ∙ sym (domains_more p c j)) a
 
 pub domains_none : (p : Plan) (c : Counts) → domains_text p c 0 ≡ []
 unfolding domains_text

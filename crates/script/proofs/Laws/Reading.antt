@@ -3,18 +3,24 @@
 use mathlib.Core.Path.{◌≡◌, refl, sym, ap, ap₂, ◌∙◌}
 use mathlib.Core.Logic.{◌≢◌}
 use mathlib.Core.Bool.{Bool, true, false, cond, ◌&&◌, and-false}
-use mathlib.Core.List.{List, [], ◌∷◌, ◌++◌, append-nil}
+use mathlib.Core.List.{List, [], ◌∷◌, ◌++◌}
 use Prim.Native.Nat.{ℕ, ◌+◌, ◌-◌, ◌*◌, ◌≤◌, ◌<◌}
 use native.Mathlib.Numerals.{add-one}
 use native.Mathlib.Omega.{arith}
 use lib.Dec.{eqb, leb}
 use lib.ListN.{length, get_or, take, drop, set, length-drop, length-map, drop_of_length-le, get_or-map}
-use lib.Seq.{drop-cons, take-suc, take-suc-set, append_snoc, take_all}
+use lib.Seq.{drop-cons, take-suc, take-suc-set, take_all}
 use borrow.Author.Tests.{leb-true, eq-eqb, ne_eqb}
 use Rattle.table.specs.Sums.{nth}
 use Rattle.table.proofs.Tables.{miss, hit, both, and_both}
+use Rattle.table.specs.Members.{each}
 use Rattle.script.specs.Line.{is_digit, digits_only, is_number, value_from, value_of, before, behind, slot_line, yield_line, bad_line, is_slot, offers_of, slot_meaning, is_yield, yield_meaning, begins, meaning_of, offers_in}
-use Rattle.script.specs.Inner.{Space, numbers_in}
+use Rattle.std.specs.Prelude.{Some, None}
+use Rattle.std.specs.List.{list_all, position, position_or_len}
+use Rattle.std.proofs.lemmas.List.Recursion.{is_position_or_len}
+use Rattle.std.proofs.lemmas.Option.{cond_some}
+use Rattle.std.proofs.lemmas.Grind.{common_steps}
+use Rattle.script.specs.Inner.{number_in, numbers_in}
 use Rattle.script.specs.declared.line.Numbers.{Numbers}
 
 pub digit_least : (b : ℕ) → is_digit b ≡ true → (48 ≤ b) × (b ≤ 57)
@@ -30,56 +36,58 @@ pub value_none : (n : ℕ) (l : List ℕ) (i : ℕ) → length l ≤ i → value
 unfolding value_from
 value_none n l i h = ap (value_from n) (drop_of_length-le l h)
 
--- The search for the first space: none in front of index i.
-pub record Seeking (l : List ℕ) (i : ℕ) : Type 0 where
-  pub ahead : before l ≡ take i l ++ before (drop i l)
-  pub after : behind l ≡ behind (drop i l)
+-- a test of each member, in std's words
+pub each_list : (test : ℕ → Bool) (l : List ℕ) → each test l ≡ list_all test l
+unfolding each
+each_list test [] = refl
+each_list test (x ∷ l) = ap (λ t. test x && t) (each_list test l)
 
-pub seek_start : (l : List ℕ) → Seeking l 0
-seek_start l = record { ahead = refl; after = refl }
+abbrev is_space : ℕ → Bool
+is_space b = eqb b 32
 
-module _ (l : List ℕ) (i : ℕ) (s : Seeking l i) where
-  pub seek_more : i < length l → nth l i ≢ 32 → Seeking l (i + 1)
-  unfolding before behind
-  seek_more h n =
-      let f : eqb (nth l i) 32 ≡ false = ne_eqb _ _ n in
-      let d : drop i l ≡ nth l i ∷ drop (i + 1) l = rw (add-one, drop-cons l i 0 h) in
-      let t : take (i + 1) l ≡ take i l ++ (nth l i ∷ []) = rw (add-one) (take-suc l i 0 h) in
-      record {
-        ahead =
-            s.ahead
-            ∙ ap (λ (m : List ℕ). take i l ++ before m) d
-            ∙ ap (λ (m : List ℕ). take i l ++ m) (miss (eqb (nth l i) 32) [] (nth l i ∷ before (drop (i + 1) l)) f)
-            ∙ sym (append_snoc (take i l) (nth l i) (before (drop (i + 1) l)))
-            ∙ ap (λ (m : List ℕ). m ++ before (drop (i + 1) l)) (sym t);
-        after = s.after ∙ ap behind d ∙ miss _ _ _ f;
-      }
+-- what stands before the first space is as long as its place says
+space_place : (l : List ℕ) → length (before l) ≡ position_or_len is_space l
+unfolding before
+space_place = is_position_or_len (λ l. length (before l)) is_space refl (λ x l. go x l (eqb x 32))
+  where
+    go : (x : ℕ) (l : List ℕ) (t : Bool) → length (cond t [] (x ∷ before l)) ≡ cond t 0 (1 + length (before l))
+    go x l true = refl
+    go x l false = omega arith
 
-  pub seek_found : i < length l → nth l i ≡ 32 → Space l i
-  unfolding before behind
-  seek_found h e =
-      let f : eqb (nth l i) 32 ≡ true = eq-eqb _ _ e in
-      let d : drop i l ≡ nth l i ∷ drop (i + 1) l = rw (add-one, drop-cons l i 0 h) in
-      record {
-        within = omega arith;
-        ahead =
-            s.ahead
-            ∙ ap (λ (m : List ℕ). take i l ++ before m) d
-            ∙ ap (λ (m : List ℕ). take i l ++ m) (hit (eqb (nth l i) 32) [] (nth l i ∷ before (drop (i + 1) l)) f)
-            ∙ append-nil (take i l);
-        after = s.after ∙ ap behind d ∙ hit _ _ _ f;
-      }
+front_is : (l : List ℕ) → take (length (before l)) l ≡ before l
+unfolding before
+front_is [] = refl
+front_is (x ∷ l) = go (eqb x 32) (front_is l)
+  where
+    go : (t : Bool) → take (length (before l)) l ≡ before l → take (length (cond t [] (x ∷ before l))) (x ∷ l) ≡ cond t [] (x ∷ before l)
+    go true e = refl
+    go false e = ap (λ m. x ∷ m) e
 
-  pub seek_none : i ≡ length l → Space l i
-  unfolding before behind
-  seek_none e =
-      let d : drop i l ≡ [] = drop_of_length-le l {i = i} (omega arith) in
-      let d' : drop (i + 1) l ≡ [] = drop_of_length-le l {i = i + 1} (omega arith) in
-      record {
-        within = omega arith;
-        ahead = s.ahead ∙ ap (λ (m : List ℕ). take i l ++ before m) d ∙ append-nil (take i l);
-        after = s.after ∙ ap behind d ∙ sym d';
-      }
+back_is : (l : List ℕ) → drop (length (before l) + 1) l ≡ behind l
+unfolding before behind
+back_is [] = refl
+back_is (x ∷ l) = go (eqb x 32) (back_is l)
+  where
+    go : (t : Bool) → drop (length (before l) + 1) l ≡ behind l → drop (length (cond t [] (x ∷ before l)) + 1) (x ∷ l) ≡ cond t l (behind l)
+    go true e = refl
+    go false e = ap (λ k. drop k (x ∷ l)) (add-one (length (x ∷ before l))) ∙ ap (λ k. drop k l) (sym (add-one (length (before l)))) ∙ e
+
+pub space_found : (l : List ℕ) (n : ℕ) → position is_space l ≡ Some n → (n < length l) × (take n l ≡ before l) × (drop (n + 1) l ≡ behind l)
+space_found l n e =
+    let p = space_place l in
+    let at : n ≡ length (before l) = grind (arith, common_steps) in
+    let within : n < length l = grind (arith, common_steps) in
+    (within, ap (λ k. take k l) at ∙ front_is l, ap (λ k. drop (k + 1) l) at ∙ back_is l)
+
+pub no_space : (l : List ℕ) → position is_space l ≡ None → behind l ≡ []
+no_space l e =
+    let p = space_place l in
+    let past : length l ≤ length (before l) + 1 = grind (arith, common_steps) in
+    sym (back_is l) ∙ drop_of_length-le l past
+
+none_so : {A : Type 0} (x : A) (b : Bool) → cond b (Some x) None ≡ None → b ≡ false
+none_so x true e = cc
+none_so x false e = refl
 
 -- a number is short, and all digits
 pub number_is : (most : ℕ) (l : List ℕ) → is_number most l ≡ true → (1 ≤ length l) × (length l ≤ most) × (digits_only l ≡ true)
@@ -93,52 +101,87 @@ pub none_no_number : (most : ℕ) → is_number most [] ≡ false
 unfolding is_number
 none_no_number most = refl
 
+-- a number, and bytes that are none
+pub number_written : (most : ℕ) (l : List ℕ) → is_number most l ≡ true → number_in most l ≡ Some (value_of l)
+unfolding number_in
+number_written most l e = hit _ _ _ e
+
+pub no_number : (most : ℕ) (l : List ℕ) → is_number most l ≡ false → number_in most l ≡ None
+unfolding number_in
+no_number most l e = miss _ _ _ e
+
+number_of : (most : ℕ) (l : List ℕ) (n : ℕ) → number_in most l ≡ Some n → (is_number most l ≡ true) × (value_of l ≡ n)
+unfolding number_in
+number_of most l n e = cond_some (is_number most l) (value_of l) n e
+
+not_one : (most : ℕ) (l : List ℕ) → number_in most l ≡ None → is_number most l ≡ false
+unfolding number_in
+not_one most l e = none_so (value_of l) (is_number most l) e
+
 -- Two numbers that are written, and one that is not.
 module _ (most more : ℕ) (l : List ℕ) where
   pub numbers_written : is_number most (before l) ≡ true → is_number more (behind l) ≡ true
-      → numbers_in most more l ≡ record { written = true; first = value_of (before l); second = value_of (behind l) }
+      → numbers_in most more l ≡ Some (record { first = value_of (before l); second = value_of (behind l) })
   unfolding numbers_in
   numbers_written a b = hit _ _ _ (both a b)
 
-  pub numbers_no_first : is_number most (before l) ≡ false → numbers_in most more l ≡ record { written = false; first = 0; second = 0 }
+  pub numbers_no_first : is_number most (before l) ≡ false → numbers_in most more l ≡ None
   unfolding numbers_in
   numbers_no_first a = miss _ _ _ (ap (λ (t : Bool). t && is_number more (behind l)) a)
 
-  pub numbers_no_second : is_number more (behind l) ≡ false → numbers_in most more l ≡ record { written = false; first = 0; second = 0 }
+  pub numbers_no_second : is_number more (behind l) ≡ false → numbers_in most more l ≡ None
   unfolding numbers_in
   numbers_no_second a = miss _ _ _ (ap (λ (t : Bool). is_number most (before l) && t) a ∙ and-false (is_number most (before l)))
 
+  -- the parts in front of the first space and behind it, one after the other
+  pub numbers_unspaced : position is_space l ≡ None → numbers_in most more l ≡ None
+  numbers_unspaced e = numbers_no_second (ap (is_number more) (no_space l e) ∙ none_no_number more)
+
+  module _ (n : ℕ) (e : position is_space l ≡ Some n) where
+    rest_is : take (length l - (n + 1)) (drop (n + 1) l) ≡ behind l
+    rest_is = take_all (length l - (n + 1)) (drop (n + 1) l) (omega (arith, length-drop (n + 1) l)) ∙ (space_found l n e).2
+
+    pub first_unwritten : number_in most (take n l) ≡ None → numbers_in most more l ≡ None
+    first_unwritten a = numbers_no_first (ap (is_number most) (sym (space_found l n e).1) ∙ not_one most (take n l) a)
+
+    pub second_unwritten : number_in more (take (length l - (n + 1)) (drop (n + 1) l)) ≡ None → numbers_in most more l ≡ None
+    second_unwritten b = numbers_no_second (ap (is_number more) (sym rest_is) ∙ not_one more _ b)
+
+    pub numbers_found : (x y : ℕ) → number_in most (take n l) ≡ Some x → number_in more (take (length l - (n + 1)) (drop (n + 1) l)) ≡ Some y
+        → numbers_in most more l ≡ Some (record { first = x; second = y })
+    numbers_found x y a b =
+        let f = number_of most (take n l) x a in
+        let g = number_of more _ y b in
+        let front = (space_found l n e).1 in
+        numbers_written (ap (is_number most) (sym front) ∙ f.0) (ap (is_number more) (sym rest_is) ∙ g.0)
+        ∙ ap₂ (λ (i j : ℕ). Some (record { first = i; second = j })) (ap value_of (sym front) ∙ f.1) (ap value_of (sym rest_is) ∙ g.1)
+
   -- what the answer tells: whether both are written, and the two where they are
-  module _ (n : Numbers) (e : n ≡ numbers_in most more l) where
-    abbrev both_written : Bool
-    both_written = is_number most (before l) && is_number more (behind l)
+  abbrev both_written : Bool
+  both_written = is_number most (before l) && is_number more (behind l)
 
-    pub written_is : both_written ≡ n.written
-    unfolding numbers_in
-    written_is = go both_written refl
-      where
-        go : (b : Bool) → both_written ≡ b → b ≡ n.written
-        go true q = sym (ap (λ (m : Numbers). m.written) (e ∙ hit _ _ _ q))
-        go false q = sym (ap (λ (m : Numbers). m.written) (e ∙ miss _ _ _ q))
+  pub written_values : (n : Numbers) → numbers_in most more l ≡ Some n
+      → (both_written ≡ true) × (n.first ≡ value_of (before l)) × (n.second ≡ value_of (behind l))
+  unfolding numbers_in
+  written_values n e =
+      let s = cond_some both_written _ n e in
+      (s.0, ap (λ (m : Numbers). m.first) (sym s.1), ap (λ (m : Numbers). m.second) (sym s.1))
 
-    pub written_values : n.written ≡ true → (n.first ≡ value_of (before l)) × (n.second ≡ value_of (behind l))
-    unfolding numbers_in
-    written_values w =
-        let q = e ∙ hit _ _ _ (written_is ∙ w) in
-        (ap (λ (m : Numbers). m.first) q, ap (λ (m : Numbers). m.second) q)
+  pub unwritten : numbers_in most more l ≡ None → both_written ≡ false
+  unfolding numbers_in
+  unwritten e = none_so (record { first = value_of (before l); second = value_of (behind l) }) both_written e
 
 -- What a yield line means: its two numbers, or where one is none.
 module _ (l : List ℕ) where
-  module _ (n : Numbers) (e : n ≡ numbers_in 2 4 l) where
-    pub yield_read : n.written ≡ true → yield_meaning l ≡ yield_line n.first n.second
-    unfolding yield_meaning is_yield
-    yield_read w =
-        let v = written_values 2 4 l n e w in
-        hit _ _ _ (written_is 2 4 l n e ∙ w) ∙ sym (ap₂ yield_line v.0 v.1)
+  pub yield_read : (n : Numbers) → numbers_in 2 4 l ≡ Some n → yield_line n.first n.second ≡ yield_meaning l
+  unfolding yield_meaning is_yield
+  yield_read n e =
+      let v = written_values 2 4 l n e in
+      ap₂ yield_line v.1 v.2 ∙ sym (hit _ _ _ v.0)
 
-    pub yield_unread : n.written ≡ false → yield_meaning l ≡ bad_line 41
-    unfolding yield_meaning is_yield
-    yield_unread w = miss _ _ _ (written_is 2 4 l n e ∙ w)
+  pub yield_unread : numbers_in 2 4 l ≡ None → bad_line 41 ≡ yield_meaning l
+  unfolding yield_meaning is_yield
+  yield_unread e = sym (miss _ _ _ (unwritten 2 4 l e))
 
   pub yield_bad_domain : is_number 2 (before l) ≡ false → yield_meaning l ≡ bad_line 41
   unfolding yield_meaning is_yield

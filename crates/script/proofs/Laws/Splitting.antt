@@ -4,16 +4,23 @@ use mathlib.Core.Path.{◌≡◌, refl, sym, ap, ap₂, subst, ◌∙◌}
 use mathlib.Core.Logic.{◌≢◌}
 use mathlib.Core.Bool.{Bool, true, false, not, false≢true}
 use mathlib.Core.List.{List, [], ◌∷◌, ◌++◌, append_assoc}
-use Prim.Native.Nat.{ℕ, suc, ◌+◌, ◌-◌, ◌≤◌, ◌<◌}
+use Prim.Native.Nat.{ℕ, suc, ◌+◌, ◌-◌, ◌≤◌, ◌<◌, min}
 use native.Mathlib.Numerals.{add-one}
+use native.Mathlib.Decide.{ℕ_discrete}
 use native.Mathlib.Omega.{arith}
 use lib.Dec.{eqb, ltb}
-use lib.ListN.{length, take, drop, length-drop, take-append-drop}
-use lib.Seq.{take-suc, get_or-drop, drop-cons, drop-drop, length-take-le}
-use borrow.Author.Tests.{not-true, ltb-false, eq-eqb, ne_eqb}
+use lib.ListN.{length, get_or, take, drop, length-take, length-drop, take-append-drop}
+use lib.Seq.{get_or-take, get_or-drop, drop-cons, drop-drop, length-take-le}
+use borrow.Author.Tests.{not-true, ltb-false, eq-eqb, ne_eqb, eqb-true}
+use Rattle.std.specs.Prelude.{Option, Some, None}
+use Rattle.std.specs.Option.{unwrap_or}
+use Rattle.std.specs.List.{position, position_or_len}
+use Rattle.std.proofs.lemmas.List.Sums.{fails_before_first}
+use Rattle.std.proofs.lemmas.List.Quantifiers.{position-Some}
+use Rattle.std.proofs.lemmas.Grind.{common_steps}
 use Rattle.table.specs.Sums.{nth}
-use Rattle.table.proofs.Tables.{miss, hit, both, neg'}
-use Rattle.table.proofs.Members.{each_first, each_snoc}
+use Rattle.table.proofs.Tables.{miss, hit, both}
+use Rattle.table.proofs.Members.{each_first, each_all}
 use Rattle.regulator.specs.declared.state.State.{State}
 use Rattle.script.specs.Line.{Meaning, meaning_of}
 use Rattle.script.specs.Text.{open_text, line_refused_text}
@@ -151,14 +158,58 @@ module _ (s : State) (L : ℕ) where
       text_refused line lines last (λ z. omega (arith, m)) ∙ ap (line_refused_text L) m
   text_long n (in_last last g) h = text_last last (omega arith)
 
--- the search for a line's end, one byte on
-pub scan_more : (part : List ℕ) (from i : ℕ) → from ≤ i → i < length part → nth part i ≢ 10
-    → unended (take (i - from) (drop from part)) ≡ true → unended (take (i + 1 - from) (drop from part)) ≡ true
-scan_more part from i h g n e =
-    let k : i + 1 - from ≡ suc (i - from) = omega arith in
-    let j : from + (i - from) ≡ i = omega arith in
-    let t : take (i + 1 - from) (drop from part) ≡ take (i - from) (drop from part) ++ (nth part i ∷ []) =
-    ap (λ (m : ℕ). take m (drop from part)) k
-    ∙ take-suc (drop from part) (i - from) 0 (omega (arith, length-drop from part))
-    ∙ ap (λ (b : ℕ). take (i - from) (drop from part) ++ (b ∷ [])) (get_or-drop from part (i - from) 0 ∙ ap (nth part) j) in
-    ap unended t ∙ each_snoc (λ (x : ℕ). not (eqb x 10)) (take (i - from) (drop from part)) (nth part i) e (neg' (ne_eqb (nth part i) 10 n))
+-- The search for a line's end: the place of the first byte 10 among the next 20 bytes, or behind them where there is none.
+module _ (part : List ℕ) (from most : ℕ) (inside : from ≤ length part) where
+  abbrev ten : ℕ → Bool
+  ten b = eqb b 10
+
+  abbrev rest : List ℕ
+  rest = take (length part - from) (drop from part)
+
+  module _ (few : most ≡ min (length rest) 20) where
+    abbrev window : List ℕ
+    window = take most rest
+
+    rest_length : length rest ≡ length part - from
+    rest_length = length-take-le (length part - from) (drop from part) (omega (arith, length-drop from part))
+
+    window_length : length window ≡ most
+    window_length = length-take-le most rest (omega (arith, few))
+
+    byte_in : (k : ℕ) → k < most → get_or window k 0 ≡ nth part (from + k)
+    byte_in k h =
+        get_or-take most rest k 0 h
+        ∙ get_or-take (length part - from) (drop from part) k 0 (omega (arith, few, rest_length))
+        ∙ get_or-drop from part k 0
+
+    clear_to : (n : ℕ) → n ≤ most → ((k : ℕ) → k < n → ten (get_or window k 0) ≡ false) → unended (take (from + n - from) (drop from part)) ≡ true
+    clear_to n h none =
+        let z : from + n - from ≡ n = omega arith in
+        rw z (each_all (λ (b : ℕ). not (ten b)) (take n (drop from part)) (λ k g.
+        let lt : k < n = omega (arith, length-take n (drop from part)) in
+        let e : get_or (take n (drop from part)) k 0 ≡ get_or window k 0 =
+        get_or-take n (drop from part) k 0 lt ∙ get_or-drop from part k 0 ∙ sym (byte_in k (omega arith)) in
+        ap (λ (b : ℕ). not (ten b)) e ∙ ap not (none k lt)))
+
+    pub line_found : (o : Option ℕ) → o ≡ position ten window → LineEnd part from (from + unwrap_or o most)
+    line_found None e =
+        let past : length window ≤ position_or_len ten window = grind (arith, common_steps) in
+        record {
+          low = omega arith;
+          high = omega (arith, few, rest_length, inside);
+          clear = clear_to most (omega arith) (λ k h. fails_before_first ten window k 0 (omega (arith, past, window_length)));
+          stop = go (ℕ_discrete most 20);
+        }
+      where
+        go : Dec (most ≡ 20) → Stop part from (from + most)
+        go (yes q) = too_long (omega arith)
+        go (no q) = at_end (omega (arith, few, rest_length, inside))
+    line_found (Some i) e =
+        let f = position-Some ten window i 0 (sym e) in
+        let low : i < most = omega (arith, f.0, window_length) in
+        record {
+          low = omega arith;
+          high = omega (arith, low, few, rest_length, inside);
+          clear = clear_to i (omega arith) f.2;
+          stop = at_ten (omega (arith, low, few, rest_length, inside)) (sym (byte_in i low) ∙ eqb-true _ _ f.1);
+        }

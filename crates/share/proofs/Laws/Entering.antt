@@ -23,13 +23,10 @@ use Rattle.regulator.proofs.Laws.Forecasting.{claims_sum}
 use Rattle.regulator.specs.State.{begun, yielding, handing}
 use Rattle.regulator.specs.Turn.{granted, steps_of, verdicts}
 use Rattle.regulator.specs.Grant.{decided_of}
-use Rattle.regulator.specs.Close.{counts_of, next_plan, next_tracked, next_period, ended}
+use Rattle.regulator.specs.Close.{counts_of, next_plan, next_tracked, next_period, ended, Answer}
 use Rattle.regulator.specs.Refusals.{slot_refusal, yield_refusal, hand_refusal}
-use Rattle.regulator.specs.Calls.{slot_of}
+use Rattle.regulator.specs.Calls.{slot_of, Yielding, Handing}
 use Rattle.regulator.specs.declared.state.State.{State}
-use Rattle.regulator.specs.declared.close.Answer.{Answer}
-use Rattle.regulator.specs.declared.calls.Yielding.{Yielding}
-use Rattle.regulator.specs.declared.calls.Handing.{Handing}
 use Rattle.regulator.proofs.Laws.Ruling.{Granted, to_none, to_best, on_claim_lem, on_stock_lem, on_writeback_lem, granted_to, one_granted}
 use Rattle.regulator.proofs.Laws.Refusing.{yield_taken, hand_taken}
 use Rattle.regulator.proofs.Laws.Deciding.{decided_none, decided_best, decided_claim, decided_stock, decided_writeback, ended_open, ended_complete, slot_refused, slot_decided, slot_number, steps_told, shown_refused, shown_decided, yield_number, yield_refused, yield_given, hand_number, hand_refused, hand_given}

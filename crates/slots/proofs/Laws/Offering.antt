@@ -22,7 +22,7 @@ use Rattle.regulator.specs.Grant.{decided_of}
 use Rattle.regulator.specs.Refusals.{above_two, unplanned, offers_table, offers_refusal}
 use Rattle.regulator.specs.Calls.{slot_of}
 use Rattle.regulator.specs.declared.state.State.{State}
-use Rattle.regulator.specs.declared.close.Answer.{Answer}
+use Rattle.regulator.specs.Close.{Answer}
 use Rattle.regulator.proofs.Laws.Refusing.{slot_on}
 use Rattle.regulator.proofs.Laws.Deciding.{slot_decided, ended_open}
 use Rattle.regulator.proofs.Laws.Keeping.{Kept as Sound, kept_adds_up, slot_next}
@@ -162,8 +162,3 @@ module _ (part : List ℕ) (s : State) (from : ℕ) (t : State) (at : ℕ) (v : 
           subst (λ (k : ℕ). Decides (after_slots s part from k) (offers_at part (from + line_bytes * k + 2)) (after_slots s part from (k + 1))) (sym e)
           (subst (Decides (after_slots s part from seen) (offers_at part (from + line_bytes * seen + 2))) (sym last) now_decides)
       decides_at i l (no e) = v.decides i (omega arith)
-
--- the same of states that are equal to them
-pub carries_as : (part : List ℕ) (from to : ℕ) {s s' t t' : State} → s ≡ s' → t' ≡ t → Carries part s from t to → Carries part s' from t' to
-carries_as part from to {s} {s'} {t} {t'} e q v =
-    subst (λ (y : State). Carries part y from t' to) e (subst (λ (y : State). Carries part s from y to) (sym q) v)

@@ -11,7 +11,7 @@ use Rattle.regulator.proofs.Laws.Keeping.{Kept as Sound}
 use Rattle.digits.specs.Lanes.{Offered}
 use Rattle.engine.specs.Inner.{Given}
 use Rattle.kept.specs.declared.numbers.Numbers.{Numbers}
-use Rattle.kept.specs.Tables.{Tables}
+use Rattle.kept.specs.declared.tables.Tables.{Tables}
 use Rattle.kept.specs.Numbers.{Rest, state_of, Of, Kept, Ready}
 use Rattle.kept.specs.Deciding.{Decided}
 use Rattle.kept.proofs.Laws.Readying.{ready, still_sound, next_decided}

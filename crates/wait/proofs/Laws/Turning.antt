@@ -12,9 +12,8 @@ use Rattle.regulator.specs.Turn.{after, granted, steps_of, verdicts}
 use Rattle.regulator.specs.Grant.{decided_of}
 use Rattle.regulator.specs.Refusals.{slot_refusal}
 use Rattle.regulator.specs.declared.state.State.{State}
-use Rattle.regulator.specs.declared.close.Answer.{Answer}
-use Rattle.regulator.specs.declared.calls.Yielding.{Yielding}
-use Rattle.regulator.specs.declared.calls.Handing.{Handing}
+use Rattle.regulator.specs.Close.{Answer}
+use Rattle.regulator.specs.Calls.{Yielding, Handing}
 use Rattle.regulator.proofs.Laws.Deciding.{ended_turn, slot_decided, slot_number, shown_decided, yield_number, yield_given, hand_number, hand_given}
 use Rattle.share.specs.Call.{Call, slot, yield, hand_in}
 use Rattle.share.specs.Ledger.{Fed}

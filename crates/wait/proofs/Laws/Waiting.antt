@@ -14,7 +14,7 @@ use Rattle.table.specs.Sums.{nth}
 use Rattle.table.proofs.Searches.{none_at}
 use Rattle.plan.specs.declared.value.Plan.{Plan}
 use Rattle.regulator.specs.Verdict.{passes}
-use Rattle.regulator.specs.Turn.{after, granted, verdicts}
+use Rattle.regulator.specs.Turn.{after, granted}
 use Rattle.regulator.specs.Refusals.{unplanned, slot_refusal}
 use Rattle.regulator.specs.declared.state.State.{State}
 use Rattle.regulator.proofs.Laws.Adding.{adds}

@@ -18,6 +18,6 @@ unfolding word_for
 returns-then-writeback c =
     ap word (sym (miss _ _ _ c.if-best.false ∙ miss _ _ _ c.if-claimed.false ∙ hit _ _ _ c.if-writeback.true))
 
-pub returns : goal.returns
+pub returns-else-writeback : goal.returns-else-writeback
 unfolding word_for
-returns c = ap word (sym (miss _ _ _ c.if-best.false ∙ miss _ _ _ c.if-claimed.false ∙ miss _ _ _ c.if-writeback.false))
+returns-else-writeback c = ap word (sym (miss _ _ _ c.if-best.false ∙ miss _ _ _ c.if-claimed.false ∙ miss _ _ _ c.if-writeback.false))

@@ -1,21 +1,16 @@
--- `cause::explaining::granted` meets its contract: a search from the front.
+-- `cause::explaining::granted` meets its contract.
 -- Assumes nothing.
-use borrow.Author.Tests.{eq-eqb, ne_eqb}
-use Rattle.table.proofs.Searches.{search_from, search_on, search_found, search_out}
+use Rattle.std.proofs.Common.{rules, ◌≡◌, true, false, ◌∙◌}
+use borrow.Author.Tests.{tests}
+use lib.Dec.{eqb}
+use Rattle.std.proofs.lemmas.Iterator.{YieldsList-from_slice, IsFirst-from_position}
+use Rattle.regulator.proofs.Laws.Ranging.{lowest_told_of}
 use Rattle.cause.proofs.explaining.granted.Goals as goal
 
-pub loop-n-init : goal.loop-n-init
-loop-n-init c = search_from _ 17
-
-pub returns-then-verdicts-n-eq1 : goal.returns-then-verdicts-n-eq1
-returns-then-verdicts-n-eq1 c =
-    let l = c.loop-n in
-    search_found _ 17 l.n c.loop-n-test.true l.invariant (eq-eqb _ 1 c.if-verdicts-n-eq1.true)
-
-pub loop-n-preserved : goal.loop-n-preserved
-loop-n-preserved c =
-    let l = c.loop-n in
-    search_on _ 17 l.n c.loop-n-test.true l.invariant (ne_eqb _ 1 c.if-verdicts-n-eq1.false)
-
 pub returns : goal.returns
-returns c = search_out _ 17 c.loop-n.n c.loop-n-test.false c.loop-n.invariant
+returns c =
+    let v = c.args.verdicts.now in
+    c.unwrap_or.ensures
+    ∙ lowest_told_of (λ x. eqb x 1) v 17 (search rules) c.position.result
+    (IsFirst-from_position _ _ c.position.result (λ x. eqb x 1 ≡ true) (λ x. eqb x 1 ≡ false) c.position.ensures.ran (YieldsList-from_slice v cc)
+    (λ x q k. search (rules, tests)) (λ x q k. search (rules, tests)))

@@ -1,6 +1,6 @@
 -- `edit::chain::list_first` meets its contract: record 0 and the records passed are listed.
 -- Assumes nothing.
-use mathlib.Core.Path.{refl}
+use mathlib.Core.Path.{refl, ◌∙◌}
 use native.Mathlib.Omega.{arith}
 use borrow.Author.Rules.{rules}
 use Rattle.plan.proofs.Laws.Telling.{at_most_sixteen}
@@ -17,13 +17,10 @@ offset_bounds-records-k c = omega (arith, c.loop-k-test.true, c.requires.1, at_m
 pub bounds-records-k : goal.bounds-records-k
 bounds-records-k c = omega (arith, c.loop-k-test.true, c.requires.1, at_most_sixteen c.args.file.now, c.loop-k.invariant.1.long)
 
-pub link_of-next-requires : goal.link_of-next-requires
-link_of-next-requires c =
+pub link_of-requires : goal.link_of-requires
+link_of-requires c =
     let v = c.loop-k in
     omega (arith, listing_at v.invariant.1, source_in c.args.file.now c.requires.0 v.k v.invariant.1.within)
-
-pub overflow_add-k : goal.overflow_add-k
-overflow_add-k c = omega (arith, c.loop-k-test.true, c.requires.1, at_most_sixteen c.args.file.now)
 
 pub offset_bounds-records-k-in-loop-k : goal.offset_bounds-records-k-in-loop-k
 offset_bounds-records-k-in-loop-k c = omega (arith, c.loop-k-test.true, c.requires.1, at_most_sixteen c.args.file.now)
@@ -34,7 +31,7 @@ bounds-records-k-in-loop-k c = omega (arith, c.loop-k-test.true, c.requires.1, a
 pub loop-k-preserved : goal.loop-k-preserved
 loop-k-preserved c =
     let low = c.loop-k-test.true in
-    (omega (arith, low), listing_more c.loop-k.invariant.1 _ c.link_of-next.ensures (omega (arith, low, c.requires.1)))
+    (omega (arith, low), listing_more c.loop-k.invariant.1 _ (c.from.ensures ∙ c.link_of.ensures) (omega (arith, low, c.requires.1)))
 
 pub returns : goal.returns
 returns c =

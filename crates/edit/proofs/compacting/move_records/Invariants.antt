@@ -1,7 +1,6 @@
 -- `edit::compacting::move_records` meets its contract: the records passed are moved, and the bytes behind them as they were.
 -- Assumes nothing.
-use mathlib.Core.Path.{◌≡◌}
-use Prim.Native.Nat.{◌-◌, ◌≤◌}
+use Prim.Native.Nat.{◌≤◌}
 use Rattle.plan.specs.Records.{record_count}
 use Rattle.plan.proofs.Laws.Filing.{Filled}
 use Rattle.edit.specs.Compaction.{moved_record}
@@ -9,7 +8,4 @@ use Rattle.edit.proofs.compacting.move_records.Given as goal
 
 abbrev pub invariant-loop-k : goal.invariant-loop-k
 invariant-loop-k l =
-    (l.k ≤ l.count) × (l.count ≡ record_count l.initial.file) × Filled (moved_record l.initial.file) l.initial.file l.file l.k
-
-abbrev pub decreases-loop-k : goal.decreases-loop-k
-decreases-loop-k l = l.count - l.k
+    (l.k ≤ record_count l.initial.file) × Filled (moved_record l.initial.file) l.initial.file l.file l.k

@@ -1,11 +1,8 @@
 -- `edit::dropping::place_of` meets its contract: the domain is none of those passed by.
 -- Assumes nothing.
-use Prim.Native.Nat.{◌-◌, ◌≤◌}
+use Prim.Native.Nat.{◌≤◌}
 use Rattle.edit.proofs.Laws.Listing.{Passed}
 use Rattle.edit.proofs.dropping.place_of.Given as goal
 
 abbrev pub invariant-loop-k : goal.invariant-loop-k
 invariant-loop-k l = (l.k ≤ l.l.count) × Passed l.file l.number l.k
-
-abbrev pub decreases-loop-k : goal.decreases-loop-k
-decreases-loop-k l = l.l.count - l.k

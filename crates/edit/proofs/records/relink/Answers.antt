@@ -5,7 +5,7 @@ use borrow.Author.Rules.{rules}
 use Rattle.edit.proofs.records.relink.Goals as goal
 
 pub returns-then-k-eq0 : goal.returns-then-k-eq0
-returns-then-k-eq0 c = store_first c.args.k c.args.l c.args.b (search rules) c.if-k-eq0.true
+returns-then-k-eq0 c = let h = c.to_le_bytes-bytes.ensures in rw h (store_first c.args.k c.args.l c.args.b (search rules) c.if-k-eq0.true)
 
 pub returns : goal.returns
-returns c = store_other c.args.k c.args.l c.args.b (search rules) c.if-k-eq0.false
+returns c = let h = c.to_le_bytes-bytes.ensures in rw h (store_other c.args.k c.args.l c.args.b (search rules) c.if-k-eq0.false)

@@ -1,7 +1,7 @@
 -- `edit::rescuing::kept_count` meets its contract: what remains of the records not dropped yet is what remains of all.
 -- Assumes nothing.
 use mathlib.Core.Path.{◌≡◌, sym, ap, ◌∙◌}
-use Prim.Native.Nat.{◌-◌, suc, ◌≤◌, ◌<◌}
+use Prim.Native.Nat.{◌+◌, ◌-◌, suc, ◌≤◌, ◌<◌}
 use native.Mathlib.Omega.{arith}
 use borrow.Author.Rules.{rules}
 use lib.ListN.{length}
@@ -15,8 +15,8 @@ use Rattle.edit.proofs.Laws.Rescue.{sum_to, remaining_none, remaining_all, remai
 use Rattle.edit.proofs.Laws.Listing.{told_count, told_sum}
 use Rattle.edit.proofs.rescuing.kept_count.Goals as goal
 
-pub u16_at-period-requires : goal.u16_at-period-requires
-u16_at-period-requires c = omega (arith, (head_whole c.args.file.now c.requires).long)
+pub u16_at-requires : goal.u16_at-requires
+u16_at-requires c = omega (arith, (head_whole c.args.file.now c.requires).long)
 
 pub loop-n-init : goal.loop-n-init
 loop-n-init c =
@@ -41,10 +41,8 @@ returns-then-sums-n c =
     let v = c.loop-n in
     ap (λ (t : Sums). nth t.told (v.n - 1)) c.sums_told-sums.ensures ∙ told_sum c.args.file.now v.n c.requires c.loop-n-test.true v.invariant.0 in
     let v = c.loop-n in
-    sym (remaining_all c.args.file.now v.n (omega (arith, compared, c.if-sums-n.true, c.u16_at-period.ensures))) ∙ v.invariant.1
-
-pub loop-n-smaller : goal.loop-n-smaller
-loop-n-smaller c = omega (arith, c.loop-n-test.true)
+    let up : v.n - 1 + 1 ≡ v.n = omega (arith, c.loop-n-test.true) in
+    up ∙ sym (remaining_all c.args.file.now v.n (omega (arith, compared, c.if-sums-n.true, c.from-period.ensures, c.u16_at.ensures))) ∙ v.invariant.1
 
 pub loop-n-preserved : goal.loop-n-preserved
 loop-n-preserved c =
@@ -55,7 +53,7 @@ loop-n-preserved c =
     let s = c.args.file.now in
     let low = c.loop-n-test.true in
     let up : v.n ≡ suc (v.n - 1) = omega (arith, low) in
-    let over : period_in s < sum_to s (suc (v.n - 1)) = omega (arith, ap (sum_to s) up, compared, c.if-sums-n.false, c.u16_at-period.ensures) in
+    let over : period_in s < sum_to s (suc (v.n - 1)) = omega (arith, ap (sum_to s) up, compared, c.if-sums-n.false, c.from-period.ensures, c.u16_at.ensures) in
     (omega (arith, v.invariant.0), sym (ap (remaining s) up ∙ remaining_less s (v.n - 1) over) ∙ v.invariant.1)
 
 pub returns : goal.returns

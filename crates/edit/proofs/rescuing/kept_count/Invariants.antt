@@ -9,6 +9,3 @@ use Rattle.edit.proofs.rescuing.kept_count.Given as goal
 
 abbrev pub invariant-loop-n : goal.invariant-loop-n
 invariant-loop-n l = (l.n ≤ length (chain_of l.file)) × (remaining l.file l.n ≡ kept_count l.file)
-
-abbrev pub decreases-loop-n : goal.decreases-loop-n
-decreases-loop-n l = l.n

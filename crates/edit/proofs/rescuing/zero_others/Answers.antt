@@ -16,42 +16,38 @@ use Rattle.edit.proofs.rescuing.zero_others.Goals as goal
 use Rattle.edit.proofs.rescuing.zero_others.Goals.{then-not-is_listed, else-not-is_listed}
 
 pub loop-k-init : goal.loop-k-init
-loop-k-init c = (search rules, search rules, filled_none _ _)
-
-pub is_listed-requires : goal.is_listed-requires
-is_listed-requires c = c.requires.0
+loop-k-init c = (search rules, filled_none _ _)
 
 pub slice_bounds-put_record-end : goal.slice_bounds-put_record-end
 slice_bounds-put_record-end c =
-    let room : 16 * c.loop-k.k + 16 ≤ length c.loop-k.file = let v = c.loop-k in omega (arith, v.invariant.2.same, v.invariant.1, c.loop-k-test.true) in
+    let room : 16 * c.loop-k.k + 16 ≤ length c.loop-k.file = let v = c.loop-k in omega (arith, v.invariant.1.same, c.loop-k-test.true) in
     room
 
 pub loop-k-preserved : goal.loop-k-preserved
 unfolding listed_only unlisted_in
 loop-k-preserved c =
-    let room : 16 * c.loop-k.k + 16 ≤ length c.loop-k.file = let v = c.loop-k in omega (arith, v.invariant.2.same, v.invariant.1, c.loop-k-test.true) in
+    let room : 16 * c.loop-k.k + 16 ≤ length c.loop-k.file = let v = c.loop-k in omega (arith, v.invariant.1.same, c.loop-k-test.true) in
     let v = c.loop-k in
     let s = c.args.file.now in
     let f : ℕ → List ℕ = listed_only s c.args.l.count c.args.l.records in
     let told = c.is_listed.ensures in (
       omega (arith, c.loop-k-test.true),
-      v.invariant.1,
       elim c.if-not-is_listed.branch [
         | then-not-is_listed w ↦
             subst (λ (b : List ℕ). Filled f s b (v.k + 1)) (sym w.file-is)
-            (filled_more f s v.file v.k v.invariant.2 _ room (search rules)
+            (filled_more f s v.file v.k v.invariant.1 _ room (search rules)
             (w.put_record.ensures ∙ sym (hit _ _ _ (ap not (sym told ∙ w.if-not-is_listed.true)))))
         | else-not-is_listed w ↦
             subst (λ (b : List ℕ). Filled f s b (v.k + 1)) (sym w.file-is)
-            (filled_keep f s v.file v.k v.invariant.2
-            (filled_behind f s v.file v.k v.invariant.2 v.k (omega arith) ∙ sym (miss _ _ _ (ap not (sym told ∙ w.if-not-is_listed.false)))))
+            (filled_keep f s v.file v.k v.invariant.1
+            (filled_behind f s v.file v.k v.invariant.1 v.k (omega arith) ∙ sym (miss _ _ _ (ap not (sym told ∙ w.if-not-is_listed.false)))))
       ],
     )
 
 pub shape_of-file : goal.shape_of-file
-shape_of-file c = c.loop-k.invariant.2.same
+shape_of-file c = c.loop-k.invariant.1.same
 
 pub returns : goal.returns
 returns c =
-    let all : c.loop-k.k ≡ record_count c.args.file.now = omega (arith, c.loop-k.invariant.0, c.loop-k.invariant.1) in
-    laid_all _ _ _ _ c.loop-k.invariant.2 all c.requires.1
+    let all : c.loop-k.k ≡ record_count c.args.file.now = omega (arith, c.loop-k.invariant.0) in
+    laid_all _ _ _ _ c.loop-k.invariant.1 all c.requires

@@ -50,8 +50,9 @@ returns c =
     let both : c.total.result + c.total-2.result ≡ claims s = ap₂ ◌+◌ c.total.ensures.is c.total-2.ensures.is in
     let block : c.is_blocked-blocked.result ≡ blocked s o =
     c.is_blocked-blocked.ensures
-    ∙ ap (λ (k : ℕ). leb s.plan.period (s.decided + k) && not (eqb c.waiting-wait.result 0)) both
-    ∙ blocked_is s o _ _ _ _ _ _ given m below _ wait.bits wait.small (omega (arith, sound.below)) in
+    ∙ rw (c.from.ensures, c.from-2.ensures)
+    (ap (λ (k : ℕ). leb s.plan.period (s.decided + k) && not (eqb c.waiting-wait.result 0)) both
+    ∙ blocked_is s o _ _ _ _ _ _ given m below _ wait.bits wait.small (omega (arith, sound.below))) in
     let bits = passing_is s o _ _ _ _ _ _ given m below _ wait.bits c.passing-pass.result _ block c.passing-pass.ensures.bits in
     let p = picked_is s o c.passing-pass.result (λ n h. bits n) (turn_small s o e) in
     record {

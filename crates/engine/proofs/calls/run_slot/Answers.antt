@@ -1,22 +1,23 @@
 -- `engine::calls::run_slot` meets its contract.
 -- Assumes nothing.
-use mathlib.Core.Path.{sym, ap, ◌∙◌}
-use Prim.Native.Nat.{ℕ}
-use Rattle.regulator.specs.Close.{without_counts}
+use mathlib.Core.Path.{sym, ◌∙◌}
+use Rattle.std.proofs.lemmas.Result.{err_from_is_err_and}
 use Rattle.regulator.specs.Calls.{one_slot}
-use Rattle.regulator.proofs.Laws.Deciding.{slot_refused, slot_decided}
+use Rattle.regulator.proofs.Laws.Deciding.{slot_decided}
+use Rattle.regulator.proofs.Laws.Telling.{slot_told}
 use Rattle.engine.proofs.calls.run_slot.Goals as goal
 
-pub returns-then-n-ne0 : goal.returns-then-n-ne0
-returns-then-n-ne0 c =
+pub returns-in_err-check_slot : goal.returns-in_err-check_slot
+returns-in_err-check_slot c =
     let a = c.args in
-    let e = c.check_slot-n.ensures in
-    c.without_counts.ensures
-    ∙ ap (λ (n : ℕ). without_counts n a.s 0) e
-    ∙ sym (slot_refused a.s a.offers.now 17 (λ z. c.if-n-ne0.true (e ∙ z)))
+    let p = err_from_is_err_and c.from_residual.result c.from_residual.ensures.1 in
+    rw (p.1, p.2) (slot_told a.s a.offers.now 17 c.in_err-check_slot.field-0.0 c.in_err-check_slot.ensures)
+
+pub ask-a-requires : goal.ask-a-requires
+ask-a-requires c = sym c.in_ok-check_slot.ensures
 
 pub returns : goal.returns
 unfolding one_slot
 returns c =
     let a = c.args in
-    c.grant_slot.ensures ∙ sym (slot_decided a.s a.offers.now 17 (sym c.check_slot-n.ensures ∙ c.if-n-ne0.false))
+    c.grant_slot.ensures ∙ sym (slot_decided a.s a.offers.now 17 (sym c.in_ok-check_slot.ensures))

@@ -8,12 +8,10 @@ use Rattle.engine.proofs.Laws.Masking.{filled_none, filled_more, filled_all, unl
 use Rattle.engine.proofs.masks.unlike.Goals as goal
 
 pub loop-i-init : goal.loop-i-init
-loop-i-init c = (omega arith, refl, filled_none 1 _)
+loop-i-init c = filled_none 1 _
 
 pub loop-i-preserved : goal.loop-i-preserved
-loop-i-preserved c =
-    let v = c.loop-i.invariant in
-    (omega arith, omega (arith, v.1), filled_more 1 _ _ _ _ _ _ v.1 refl v.2 c.with_bit-m.ensures)
+loop-i-preserved c = filled_more 1 _ _ _ _ _ _ refl refl c.loop-i.invariant c.with_bit-m.ensures
 
 pub returns : goal.returns
 returns c =
@@ -24,4 +22,4 @@ returns c =
     let g : length b ≡ 16 = search rules in
     let e : i ≡ 16 = omega arith in
     let v = c.loop-i.invariant in
-    record { best = v.2.ahead 0 (omega arith); at = filled_all 1 _ _ i 16 e (unlike_out a b h g) v.2 }
+    record { best = v.ahead 0 (omega arith); at = filled_all 1 _ _ i 16 e (unlike_out a b h g) v }

@@ -14,9 +14,9 @@ use Rattle.kept.proofs.deciding.slot.Goals as goal
 
 -- What the four calls before the grant ensure, in one record.
 worked : {period access writeback : ℕ} {f : Numbers} {wait m : ℕ} {b : Bool} {g : Picked} → wait < 131072
-    → ((n : ℕ) → bit wait n ≡ wait_at (bit access n) (bit writeback n) (bit f.has n) (bit f.back n))
+    → ((n : ℕ) → bit wait n ≡ wait_at (bit access n) (bit writeback n) (bit f.masks.has n) (bit f.masks.back n))
     → b ≡ (leb period f.spoken && not (eqb wait 0))
-    → ((n : ℕ) → bit m n ≡ pass_at (bit wait n) (free_at (eqb n 0) (bit access n) (bit writeback n) (bit f.may n) (bit f.room n) (not (eqb f.stock 0))) b)
+    → ((n : ℕ) → bit m n ≡ pass_at (bit wait n) (free_at (eqb n 0) (bit access n) (bit writeback n) (bit f.masks.may n) (bit f.masks.room n) (not (eqb f.stock 0))) b)
     → g ≡ picked_of m f.turn → Worked period access writeback f wait b m g
 worked small waits blocks passes picks = record { wait_small = small; wait_bits = waits; block_is = blocks; pass_bits = passes; pick_is = picks }
 

@@ -9,15 +9,15 @@ pub shift-row-requires : goal.shift-row-requires
 shift-row-requires c =
     let p = c.requires in
     let r = c.requires.ready in
-    let i = c.args.n - 1 in
+    let i = c.args.picked.number - 1 in
     let taken = c.taken_of-taken.ensures in
     record {
       i_bound = (omega arith, taken.few);
-      claim_len = (r.claim_long, takes_claim p.n_nonzero.0 p.n_nonzero.1 p.kept_2 r p.fit taken.is taken.few);
-      reserved_len = (r.reserved_long, r.reserved_small i);
-      reclaimed_len = (r.reclaimed_long, r.reclaimed_small i);
-      writebacks_len = (r.writebacks_long, r.writebacks_small i);
-      writebackclaim_len = (r.writebackclaim_long, takes_back p.n_nonzero.0 p.n_nonzero.1 p.kept_2 r p.fit taken.is taken.few);
+      claim = takes_claim p.n_nonzero.0 p.n_nonzero.1 p.kept_2 r p.fit taken.is taken.few;
+      reserved = r.reserved_small i;
+      reclaimed = r.reclaimed_small i;
+      writebacks = r.writebacks_small i;
+      writebackclaim = takes_back p.n_nonzero.0 p.n_nonzero.1 p.kept_2 r p.fit taken.is taken.few;
     }
 
 pub has_ended-ended-requires : goal.has_ended-ended-requires

@@ -12,20 +12,20 @@ returns-then-on c =
     let a = c.args in
     record {
       at = λ k.
-          rw c.if-moved.true
+          rw c.if-not-moved.false
           (c.join.ensures k ∙ ap (λ (b : Bool). bit a.mask k || b) (c.one.ensures k) ∙ set_bit (bit a.mask k) (eqb k a.n) a.on c.if-on.true);
     }
 
-pub returns-then-moved : goal.returns-then-moved
-returns-then-moved c =
+pub returns-else-on : goal.returns-else-on
+returns-else-on c =
     let a = c.args in
     record {
       at = λ k.
-          rw c.if-moved.true
-          (c.less.ensures k ∙ ap (λ (b : Bool). bit a.mask k && not b) (c.one-then-moved.ensures k) ∙ clear_bit (bit a.mask k) (eqb k a.n) a.on c.if-on.false);
+          rw c.if-not-moved.false
+          (c.less.ensures k ∙ ap (λ (b : Bool). bit a.mask k && not b) (c.one-else-on.ensures k) ∙ clear_bit (bit a.mask k) (eqb k a.n) a.on c.if-on.false);
     }
 
-pub returns : goal.returns
-returns c =
+pub returns-then-not-moved : goal.returns-then-not-moved
+returns-then-not-moved c =
     let a = c.args in
-    record { at = λ k. rw c.if-moved.false (same_bit (bit a.mask k) (eqb k a.n) a.on) }
+    record { at = λ k. rw c.if-not-moved.true (same_bit (bit a.mask k) (eqb k a.n) a.on) }

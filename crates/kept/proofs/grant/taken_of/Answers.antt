@@ -24,7 +24,7 @@ pub returns : goal.returns
 returns c =
     let a = c.args in
     let w = bit a.writeback a.n in
-    let h = bit a.has a.n in
-    let q = bit a.back a.n in
+    let h = bit a.masks.has a.n in
+    let q = bit a.masks.back a.n in
     let e = digits_taken w h q _ _ _ c.digit-w.ensures (c.digit-c.ensures ∙ ap one (c.less.ensures a.n)) (c.digit-b.ensures ∙ ap one (c.meet.ensures a.n)) in
     record { is = e; few = subst Few (sym e) (few w h q) }

@@ -1,9 +1,6 @@
 -- `model_calls::cells::total` is safe: n words come to less than n times 2 to the 32.
-use Rattle.std.proofs.Common.{◌-◌, ◌*◌, ◌≤◌}
+use Rattle.std.proofs.Common.{◌+◌, ◌*◌, ◌≤◌}
 use Rattle.model_calls.proofs.cells.total.Given as goal
 
 abbrev pub invariant-loop-n : goal.invariant-loop-n
-invariant-loop-n l = (l.n ≤ 16) × (l.sum ≤ 4294967295 * l.n)
-
-abbrev pub decreases-loop-n : goal.decreases-loop-n
-decreases-loop-n l = 16 - l.n
+invariant-loop-n l = l.sum + 4294967295 ≤ 4294967295 * l.n

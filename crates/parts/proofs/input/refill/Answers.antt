@@ -7,7 +7,7 @@ use Rattle.parts.proofs.input.refill.Goals as goal
 pub returns-in-Ok-clause-bytes : goal.returns-in-Ok-clause-bytes
 returns-in-Ok-clause-bytes g c =
     let left = c.args.filled - c.args.used in
-    let text = c.move_down.new.buffer in
+    let text = c.copy_within.new.self in
     let within : left ≤ length text = omega arith in
     let behind = read_behind left (length text - left) c.in-Ok.n text c.read.new.buf within c.in-Ok.ensures.bound.0 in
     subst (Consumes _ _) (sym behind) c.in-Ok.ensures.bytes.0

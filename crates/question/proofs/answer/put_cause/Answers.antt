@@ -1,7 +1,6 @@
 -- `question::answer::put_cause` meets its contract: a text for each case.
 -- Assumes nothing.
-use mathlib.Core.Path.{sym}
-use Rattle.script.proofs.Laws.Putting.{put_none}
+use Rattle.script.proofs.Laws.Putting.{puts_none, puts_field}
 use Rattle.question.specs.Answer.{cause_text}
 use mir.Syntax.{w32}
 use mir.Val.{SFits}
@@ -11,7 +10,7 @@ use Rattle.question.proofs.answer.put_cause.Goals as goal
 
 pub returns-in-Nothing : goal.returns-in-Nothing
 unfolding cause_text
-returns-in-Nothing c = rw c.in-Nothing.is (sym (put_none _))
+returns-in-Nothing c = rw c.in-Nothing.is (puts_none _)
 
 pub returns-in-Claim : goal.returns-in-Claim
 unfolding cause_text
@@ -31,7 +30,7 @@ returns-in-Granted c = rw c.in-Granted.is c.put_field.ensures
 
 pub returns-in-Cap : goal.returns-in-Cap
 unfolding cause_text
-returns-in-Cap c = rw c.in-Cap.is c.put_field-in-Cap.ensures
+returns-in-Cap c = rw c.in-Cap.is (puts_field c.from.ensures c.put_field-in-Cap.ensures)
 
 pub returns-in-Totals : goal.returns-in-Totals
 unfolding cause_text

@@ -7,7 +7,7 @@ use mir.Val.{SFits}
 use mir.Facts.{to_z-of_z}
 use Rattle.table.proofs.Tables.{miss, hit}
 use Rattle.script.specs.Text.{decimal, field}
-use Rattle.script.specs.Output.{put}
+use Rattle.script.proofs.Laws.Putting.{puts_as}
 use Rattle.question.specs.Answer.{signed}
 use borrow.Author.Rules.{rules}
 use Rattle.question.proofs.answer.put_signed.Goals as goal
@@ -18,12 +18,12 @@ returns-then-z-lt0 c =
     let fits : SFits w32 c.args.z = search rules in
     let e = to_z-of_z fits in
     let n = rw e at c.size.ensures in
-    c.put_field.ensures ∙ ap (put _) (ap (field (code "-")) n ∙ sym (hit _ _ _ (rw e at c.if-z-lt0.true)))
+    puts_as (ap (field (code "-")) n ∙ sym (hit _ _ _ (rw e at c.if-z-lt0.true))) c.put_field.ensures
 
-pub returns : goal.returns
+pub returns-else-z-lt0 : goal.returns-else-z-lt0
 unfolding signed
-returns c =
+returns-else-z-lt0 c =
     let fits : SFits w32 c.args.z = search rules in
     let e = to_z-of_z fits in
-    let n = rw e at c.size-2.ensures in
-    c.put_number.ensures ∙ ap (put _) (ap decimal n ∙ sym (miss _ _ _ (rw e at c.if-z-lt0.false)))
+    let n = rw e at c.size-else-z-lt0.ensures in
+    puts_as (ap decimal n ∙ sym (miss _ _ _ (rw e at c.if-z-lt0.false))) c.put_number.ensures

@@ -1,33 +1,35 @@
 -- `question::ask::read_ask` meets its contract: a byte 10 at the end, and two numbers before it.
 -- Assumes nothing.
-use mathlib.Core.Path.{◌≡◌, sym}
+use mathlib.Core.Path.{◌≡◌, sym, ap, ◌∙◌}
 use mathlib.Core.Logic.{◌≢◌}
 use mathlib.Core.List.{List}
-use Prim.Native.Nat.{ℕ, ◌-◌}
+use Prim.Native.Nat.{ℕ, ◌-◌, ◌<◌}
 use native.Mathlib.Omega.{arith}
 use lib.ListN.{length, get_or-eq_default}
-use lib.Seq.{length-take-le}
 use Rattle.table.specs.Sums.{nth}
+use Rattle.question.specs.Inner.{asked_by}
 use Rattle.question.proofs.Laws.Answers.{unended_malformed, numbers_asked, numbers_malformed}
+use borrow.Author.Rules.{rules}
 use Rattle.question.proofs.ask.read_ask.Goals as goal
 
 -- an empty file has no last byte
-empty : (l : List ℕ) → length l ≡ 0 → nth l (length l - 1) ≢ 10
+empty : (l : List ℕ) → length l < 1 → nth l (length l - 1) ≢ 10
 empty l e z = omega (arith, get_or-eq_default l 0 {n = length l - 1} (omega arith))
 
-pub returns-then-bytes-eq0 : goal.returns-then-bytes-eq0
-returns-then-bytes-eq0 c = sym (unended_malformed _ (empty c.args.bytes.now c.if-bytes-eq0.true))
+pub returns-in_default : goal.returns-in_default
+returns-in_default c = sym (unended_malformed _ (empty c.args.bytes.now c.in_default.len_below))
 
-pub returns-then-bytes-last-ne10 : goal.returns-then-bytes-last-ne10
-returns-then-bytes-last-ne10 c = sym (unended_malformed _ c.if-bytes-last-ne10.true)
+pub returns-in_default-2 : goal.returns-in_default-2
+returns-in_default-2 c =
+    let unended : nth c.args.bytes.now (length c.args.bytes.now - 1) ≢ 10 = search rules in
+    sym (unended_malformed _ unended)
 
-pub slice_bounds-read_numbers-end : goal.slice_bounds-read_numbers-end
-slice_bounds-read_numbers-end c =
-    let l = c.args.bytes.now in
-    sym (length-take-le (length l - 1) l (omega arith))
-
-pub returns-then-n : goal.returns-then-n
-returns-then-n c = sym (numbers_asked _ _ c.read_numbers-n.ensures c.if-bytes-last-ne10.false c.if-n.true)
+pub returns-in_err-n : goal.returns-in_err-n
+returns-in_err-n c =
+    let ended : nth c.args.bytes.now (length c.args.bytes.now - 1) ≡ 10 = search rules in
+    ap asked_by c.from_residual.ensures ∙ sym (numbers_malformed _ ended (sym c.read_numbers.ensures ∙ c.in_err-n.was))
 
 pub returns : goal.returns
-returns c = sym (numbers_malformed _ _ c.read_numbers-n.ensures c.if-bytes-last-ne10.false c.if-n.false)
+returns c =
+    let ended : nth c.args.bytes.now (length c.args.bytes.now - 1) ≡ 10 = search rules in
+    sym (numbers_asked _ ended c.in_ok-n.n (sym c.read_numbers.ensures ∙ c.in_ok-n.was))

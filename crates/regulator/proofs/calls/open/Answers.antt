@@ -1,36 +1,33 @@
 -- `regulator::calls::open` meets its contract.
 -- Assumes nothing.
-use mathlib.Core.Path.{◌≡◌, sym, ap, ◌∙◌}
+use mathlib.Core.Path.{◌≡◌, sym, ap}
 use native.Mathlib.Omega.{arith}
 use borrow.Author.Tests.{eq-eqb, ne_eqb}
-use Rattle.table.specs.Sums.{sum}
-use Rattle.table.proofs.Tables.{miss, hit}
-use Rattle.table.proofs.Elements.{sum_zeros}
-use Rattle.plan.specs.Value.{plan_refusal}
-use Rattle.plan.specs.declared.value.Plan.{Plan}
-use Rattle.plan.specs.declared.value.Refusal.{Refusal}
-use Rattle.regulator.specs.Calls.{open_plan}
+use Rattle.std.proofs.lemmas.Result.{err_from_is_err_and}
+use Rattle.table.proofs.Tables.{hit}
+use Rattle.plan.specs.Value.{no_domains, plan_refusal, Refusal}
+use Rattle.regulator.specs.Forecast.{no_estimates}
+use Rattle.regulator.specs.State.{begun}
+use Rattle.regulator.specs.Calls.{open_plan, Opening}
 use Rattle.regulator.proofs.Laws.Adding.{reservations_fit}
+use Rattle.regulator.proofs.Laws.Telling.{plan_refused}
 use Rattle.regulator.proofs.calls.open.Goals as goal
 
-pub begin-s-requires : goal.begin-s-requires
-begin-s-requires c =
-    let accepted : (plan_refusal c.args.p).refused ≡ 0 = sym (ap (λ (r : Refusal). r.refused) c.check-c.ensures) ∙ c.if-c-eq0.true in
+pub returns-in_err-check : goal.returns-in_err-check
+unfolding open_plan
+returns-in_err-check c =
+    let told = c.in_err-check.ensures in
+    let p = err_from_is_err_and c.from_residual.result c.from_residual.ensures.1 in
+    let zeros : Refusal → Opening = λ r. record { refused = r.refused; place = r.place; state = begun (no_domains 0) 0 0 no_estimates } in
+    rw (p.1, p.2, ne_eqb _ 0 (plan_refused c.args.p c.in_err-check.field-0.0 told)) (ap zeros told)
+
+pub begin-requires : goal.begin-requires
+begin-requires c =
+    let accepted : (plan_refusal c.args.p).refused ≡ 0 = sym (ap (λ (r : Refusal). r.refused) c.in_ok-check.ensures) in
     omega (arith, reservations_fit _ accepted)
 
-pub begin-s-requires-else-c-eq0 : goal.begin-s-requires-else-c-eq0
-begin-s-requires-else-c-eq0 c = omega (arith, ap (λ (p : Plan). sum p.reservation) c.no_plan.ensures, sum_zeros 16)
-
-pub returns-then-c-eq0 : goal.returns-then-c-eq0
+pub returns : goal.returns
 unfolding open_plan
-returns-then-c-eq0 c =
-    let accepted : (plan_refusal c.args.p).refused ≡ 0 = sym (ap (λ (r : Refusal). r.refused) c.check-c.ensures) ∙ c.if-c-eq0.true in
-    rw (c.begin-s.ensures, c.no_estimates.ensures) (sym (hit _ _ _ (eq-eqb _ 0 accepted)))
-
-pub returns-else-c-eq0 : goal.returns-else-c-eq0
-unfolding open_plan
-returns-else-c-eq0 c =
-    let check = c.check-c.ensures in
-    let e = ap (λ (r : Refusal). r.refused) check in
-    rw (c.begin-s-else-c-eq0.ensures, c.no_estimates-else-c-eq0.ensures, c.no_plan.ensures, check)
-    (sym (miss _ _ _ (ne_eqb _ 0 (λ z. c.if-c-eq0.false (e ∙ z)))))
+returns c =
+    let accepted : (plan_refusal c.args.p).refused ≡ 0 = sym (ap (λ (r : Refusal). r.refused) c.in_ok-check.ensures) in
+    rw (c.begin.ensures, c.no_estimates.ensures) (sym (hit _ _ _ (eq-eqb _ 0 accepted)))

@@ -1,43 +1,31 @@
 -- `regulator::calls::run_slot` meets its contract.
 -- Assumes nothing.
-use mathlib.Core.Path.{◌≡◌, sym, ap, ◌∙◌}
-use Prim.Native.Nat.{ℕ}
+use mathlib.Core.Path.{sym, ◌∙◌}
 use lib.ListN.{length}
-use Rattle.regulator.specs.Close.{without_counts}
-use Rattle.regulator.specs.Refusals.{slot_refusal}
+use Rattle.std.proofs.lemmas.Result.{err_from_is_err_and}
 use Rattle.regulator.specs.Calls.{one_slot}
-use Rattle.regulator.proofs.Laws.Deciding.{slot_refused, slot_decided, shown_refused, shown_decided}
+use Rattle.regulator.proofs.Laws.Deciding.{slot_decided, shown_decided}
+use Rattle.regulator.proofs.Laws.Telling.{slot_told, shown_told}
 use Rattle.regulator.proofs.calls.run_slot.Goals as goal
 
-pub returns-then-n-ne0-clause-answer : goal.returns-then-n-ne0-clause-answer
-returns-then-n-ne0-clause-answer c =
+pub returns-in_err-check_slot-clause-answer : goal.returns-in_err-check_slot-clause-answer
+returns-in_err-check_slot-clause-answer c =
     let a = c.args in
-    let e = c.check_slot-n.ensures in
-    let told : slot_refusal a.s a.offers.now (length a.verdicts.now) ≡ 0 → ⊥ = λ z. c.if-n-ne0.true (e ∙ z) in
-    c.without_counts.ensures
-    ∙ ap (λ (n : ℕ). without_counts n a.s 0) e
-    ∙ sym (slot_refused a.s a.offers.now (length a.verdicts.now) told)
+    let p = err_from_is_err_and c.from_residual.result c.from_residual.ensures.1 in
+    rw (p.1, p.2) (slot_told a.s a.offers.now (length a.verdicts.now) c.in_err-check_slot.field-0.0 c.in_err-check_slot.ensures)
 
-pub returns-then-n-ne0-clause-shown : goal.returns-then-n-ne0-clause-shown
-returns-then-n-ne0-clause-shown c =
+pub returns-in_err-check_slot-clause-shown : goal.returns-in_err-check_slot-clause-shown
+returns-in_err-check_slot-clause-shown c =
     let a = c.args in
-    let e = c.check_slot-n.ensures in
-    let told : slot_refusal a.s a.offers.now (length a.verdicts.now) ≡ 0 → ⊥ = λ z. c.if-n-ne0.true (e ∙ z) in
-    sym (shown_refused a.s a.offers.now a.verdicts.now told)
-
-pub decide-requires : goal.decide-requires
-decide-requires c = sym c.check_slot-n.ensures ∙ c.if-n-ne0.false
+    shown_told a.s a.offers.now a.verdicts.now c.in_err-check_slot.field-0.0 c.in_err-check_slot.ensures
 
 pub returns-clause-answer : goal.returns-clause-answer
 unfolding one_slot
 returns-clause-answer c =
     let a = c.args in
-    let e = sym c.check_slot-n.ensures ∙ c.if-n-ne0.false in
-    c.decide.ensures.answer ∙ sym (slot_decided a.s a.offers.now (length a.verdicts.now) e)
+    c.decide.ensures.answer ∙ sym (slot_decided a.s a.offers.now (length a.verdicts.now) (sym c.in_ok-check_slot.ensures))
 
 pub returns-clause-shown : goal.returns-clause-shown
-unfolding one_slot
 returns-clause-shown c =
     let a = c.args in
-    let e = sym c.check_slot-n.ensures ∙ c.if-n-ne0.false in
-    c.decide.ensures.shown ∙ sym (shown_decided a.s a.offers.now a.verdicts.now e)
+    c.decide.ensures.shown ∙ sym (shown_decided a.s a.offers.now a.verdicts.now (sym c.in_ok-check_slot.ensures))

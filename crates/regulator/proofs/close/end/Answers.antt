@@ -4,20 +4,20 @@ use borrow.Author.Tests.{eq-eqb, ne_eqb}
 use Rattle.regulator.specs.Close.{ended}
 use Rattle.regulator.proofs.close.end.Goals as goal
 
-pub begin-next-requires : goal.begin-next-requires
-begin-next-requires c = rw c.next_plan.ensures c.requires.s_bound
+pub begin-state-requires : goal.begin-state-requires
+begin-state-requires c = rw c.next_plan.ensures c.requires.s_bound
 
-pub returns-then-s-p : goal.returns-then-s-p
+pub returns-then-s : goal.returns-then-s
 unfolding ended
-returns-then-s-p c =
+returns-then-s c = rw (ne_eqb _ _ c.if-s.true)
+
+pub returns : goal.returns
+unfolding ended
+returns c =
     rw (
-      eq-eqb _ _ c.if-s-p.true,
-      c.begin-next.ensures,
+      eq-eqb _ _ c.if-s.false,
+      c.begin-state.ensures,
       c.next_tracked.ensures,
       c.next_plan.ensures,
-      c.counts_of-all.ensures,
+      c.counts_of-counts.ensures,
     )
-
-pub returns-else-s-p : goal.returns-else-s-p
-unfolding ended
-returns-else-s-p c = rw (ne_eqb _ _ c.if-s-p.false) c.without_counts.ensures

@@ -1,12 +1,8 @@
 -- `regulator::forecast::close_all` meets its contract: the estimates are filled in from the front.
 -- Assumes nothing.
-use Prim.Native.Nat.{◌-◌}
 use Rattle.table.proofs.Filling.{Filled}
 use Rattle.regulator.specs.Forecast.{closed_at}
 use Rattle.regulator.proofs.forecast.close_all.Given as goal
 
 abbrev pub invariant-loop-k : goal.invariant-loop-k
 invariant-loop-k l = Filled (closed_at l.marked l.tracked l.reserved l.reclaimed) 16 l.next l.k
-
-abbrev pub decreases-loop-k : goal.decreases-loop-k
-decreases-loop-k l = 16 - l.k

@@ -12,7 +12,7 @@ loop-k-init c = filled_from (left c.args.q c.args.claims) 16 (replicate 16 0) (s
 
 pub loop-k-preserved : goal.loop-k-preserved
 loop-k-preserved c =
-    filled_on (left c.args.q c.args.claims) 16 c.loop-k.yields c.loop-k.k _ c.loop-k-test.true c.loop-k.invariant c.less.ensures
+    filled_on (left c.args.q c.args.claims) 16 c.loop-k.yields c.loop-k.k _ c.loop-k-test.true c.loop-k.invariant c.saturating_sub.ensures
 
 pub returns : goal.returns
 returns c = filled_whole (left c.args.q c.args.claims) 16 c.loop-k.yields c.loop-k.k (omega arith) c.loop-k.invariant

@@ -12,6 +12,3 @@ left q claims j = nth q j - nth claims j
 
 abbrev pub invariant-loop-k : goal.invariant-loop-k
 invariant-loop-k l = Filled (left l.q l.claims) 16 l.yields l.k
-
-abbrev pub decreases-loop-k : goal.decreases-loop-k
-decreases-loop-k l = 16 - l.k

@@ -21,23 +21,23 @@ returns-then-writeback c = c.on_writeback.ensures ∙ sym (ap (domain_grant _ _)
 
 pub on_claim-requires : goal.on_claim-requires
 on_claim-requires c =
-    let some : 0 < nth c.args.s.claim c.args.j = omega (arith, c.at.ensures, c.if-at-gt0.true) in
+    let some : 0 < nth c.args.s.claim c.args.j = c.if-s-j-gt0.true in
     let fits : Small c.args.s c.args.j = small c.args.s (adds c.args.s (search rules)).balanced c.args.j (search rules) in
     record { j_bound = search rules; j_nonzero = some; j_bound_2 = omega arith }
 
 pub on_stock-requires : goal.on_stock-requires
 on_stock-requires c =
     let stock : c.args.writeback ≡ false → nth c.args.s.claim c.args.j ≡ 0 → 0 < c.args.s.stock = search rules in
-    let none : nth c.args.s.claim c.args.j ≡ 0 = omega (arith, c.at.ensures, c.if-at-gt0.false) in
+    let none : nth c.args.s.claim c.args.j ≡ 0 = omega (arith, c.if-s-j-gt0.false) in
     let fits : Small c.args.s c.args.j = small c.args.s (adds c.args.s (search rules)).balanced c.args.j (search rules) in
     record { j_bound = search rules; stock_nonzero = stock c.if-writeback.false none; j_bound_2 = omega arith }
 
-pub returns-then-at-gt0 : goal.returns-then-at-gt0
-returns-then-at-gt0 c =
-    let some : 0 < nth c.args.s.claim c.args.j = omega (arith, c.at.ensures, c.if-at-gt0.true) in
+pub returns-then-s-j-gt0 : goal.returns-then-s-j-gt0
+returns-then-s-j-gt0 c =
+    let some : 0 < nth c.args.s.claim c.args.j = c.if-s-j-gt0.true in
     c.on_claim.ensures ∙ sym (ap (domain_grant _ _) c.if-writeback.false ∙ grant_claim _ _ some)
 
-pub returns-else-at-gt0 : goal.returns-else-at-gt0
-returns-else-at-gt0 c =
-    let none : nth c.args.s.claim c.args.j ≡ 0 = omega (arith, c.at.ensures, c.if-at-gt0.false) in
+pub returns-else-s-j-gt0 : goal.returns-else-s-j-gt0
+returns-else-s-j-gt0 c =
+    let none : nth c.args.s.claim c.args.j ≡ 0 = omega (arith, c.if-s-j-gt0.false) in
     c.on_stock.ensures ∙ sym (ap (domain_grant _ _) c.if-writeback.false ∙ grant_stock _ _ none)

@@ -1,6 +1,9 @@
 -- `regulator::grant::on_claim` meets its contract.
 -- Assumes nothing.
+use Rattle.std.proofs.Common.{rules}
+use Rattle.table.specs.Sums.{raised, lowered}
 use Rattle.regulator.proofs.grant.on_claim.Goals as goal
 
 pub returns : goal.returns
-returns c = rw (c.lower-less.ensures, c.raise-more.ensures)
+unfolding raised lowered
+returns c = search rules

@@ -1,6 +1,9 @@
 -- `regulator::grant::on_stock` meets its contract.
 -- Assumes nothing.
+use Rattle.std.proofs.Common.{rules}
+use Rattle.table.specs.Sums.{raised, lowered}
 use Rattle.regulator.proofs.grant.on_stock.Goals as goal
 
 pub returns : goal.returns
-returns c = rw c.raise-more.ensures
+unfolding raised lowered
+returns c = search rules

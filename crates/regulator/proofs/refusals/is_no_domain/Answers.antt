@@ -1,18 +1,23 @@
--- `regulator::refusals::is_no_domain` meets its contract: 0, 17 up, and else the plan's flag.
+-- `regulator::refusals::is_no_domain` meets its contract.
 -- Assumes nothing.
-use borrow.Author.Tests.{eq-eqb, ne_eqb, lt-ltb, le-ltb}
+use Rattle.std.proofs.Common.{rules}
+use borrow.Author.Tests.{tests}
+use Rattle.std.proofs.Common.{sym, arith}
 use Rattle.plan.specs.Value.{outside}
+use Rattle.plan.proofs.Laws.Values.{within}
 use Rattle.regulator.specs.Refusals.{no_domain}
 use Rattle.regulator.proofs.refusals.is_no_domain.Goals as goal
 
-pub returns-then-domain-eq0 : goal.returns-then-domain-eq0
+pub returns-then-is_outside : goal.returns-then-is_outside
 unfolding no_domain outside
-returns-then-domain-eq0 c = rw (eq-eqb _ 0 c.if-domain-eq0.true)
+returns-then-is_outside c = search (rules, tests)
 
-pub returns-then-domain-gt16 : goal.returns-then-domain-gt16
+pub returns-else-is_outside : goal.returns-else-is_outside
 unfolding no_domain outside
-returns-then-domain-gt16 c = rw (ne_eqb _ 0 c.if-domain-eq0.false, lt-ltb 16 _ c.if-domain-gt16.true)
+returns-else-is_outside c = search (rules, tests)
 
-pub returns : goal.returns
-unfolding no_domain outside
-returns c = rw (ne_eqb _ 0 c.if-domain-eq0.false, le-ltb 16 _ c.if-domain-gt16.false)
+pub overflow_sub-result : goal.overflow_sub-result
+overflow_sub-result c = (within 16 c.args.domain (sym c.if-is_outside.ensures)).0
+
+pub bounds-p-domain : goal.bounds-p-domain
+bounds-p-domain c = let n = within 16 c.args.domain (sym c.if-is_outside.ensures) in omega (arith, n.0, n.1)

@@ -1,24 +1,20 @@
--- `regulator::state::adds_up` meets its contract: what its callees tell, put into the eight tests.
+-- `regulator::state::adds_up` meets its contract.
 -- Assumes nothing.
+use Rattle.std.proofs.Common.{rules, ◌≡◌, eqb, ◌∙◌}
+use borrow.Author.Tests.{tests}
+use Rattle.plan.specs.Value.{plan_refusal}
 use Rattle.regulator.specs.State.{adds_up}
+use Rattle.regulator.proofs.Laws.Telling.{accepted_told}
 use Rattle.regulator.proofs.state.adds_up.Goals as goal
 
-pub returns : goal.returns
+pub returns-then-waiting_adds_up : goal.returns-then-waiting_adds_up
 unfolding adds_up
-returns c =
-    let total = c.total.ensures.is in
-    let total2 = c.total-2.ensures.is in
-    let total3 = c.total-3.ensures.is in
-    let total4 = c.total-4.ensures.is in
-    rw (
-      c.check-refusal.ensures,
-      c.domains_add_up-domains.ensures,
-      c.sums_add_up-sums.ensures,
-      total,
-      total2,
-      total3,
-      total4,
-      c.steps_add_up-steps.ensures,
-      c.waiting_adds_up-waiting.ensures,
-      c.estimates_add_up-estimates.ensures,
-    ) at c.all_eight.ensures
+returns-then-waiting_adds_up c =
+    let plan : c.is_ok.result ≡ eqb (plan_refusal c.args.s.plan).refused 0 = c.is_ok.ensures.value ∙ accepted_told c.args.s.plan c.check.result c.check.ensures in
+    search (rules, tests)
+
+pub returns-else-waiting_adds_up : goal.returns-else-waiting_adds_up
+unfolding adds_up
+returns-else-waiting_adds_up c =
+    let plan : c.is_ok.result ≡ eqb (plan_refusal c.args.s.plan).refused 0 = c.is_ok.ensures.value ∙ accepted_told c.args.s.plan c.check.result c.check.ensures in
+    search (rules, tests)

@@ -45,7 +45,7 @@ returns c =
       yielded = yields i;
       writebacks = replicate 16 0;
       steps = 0;
-      waiting = record { given = false; plan = c.no_plan-none.ensures i };
+      waiting = record { given = false; plan = c.no_domains.ensures i };
       writebackclaim = a.p.writebackreservation;
       tracked = a.tracked;
     }

@@ -1,27 +1,16 @@
--- `regulator::verdict::lowest_waiting` meets its contract: no domain passed is waiting on claim.
+-- `regulator::verdict::lowest_waiting` meets its contract.
 -- Assumes nothing.
-use mathlib.Core.Path.{◌≡◌, sym, ◌∙◌}
-use native.Mathlib.Omega.{arith}
-use Rattle.table.proofs.Searches.{search_from, search_on, search_found, search_out}
+use Rattle.std.proofs.Common.{rules, ◌≡◌, true, false}
+use borrow.Author.Tests.{tests}
+use Rattle.std.proofs.lemmas.Iterator.{first_from_Range}
 use Rattle.regulator.specs.Verdict.{waiting}
+use Rattle.regulator.proofs.Laws.Ranging.{lowest_told}
 use Rattle.regulator.proofs.verdict.lowest_waiting.Goals as goal
 
-pub loop-j-init : goal.loop-j-init
-loop-j-init c = search_from _ 16
-
-pub returns-then-is_waiting : goal.returns-then-is_waiting
+pub returns-clause-lowest : goal.returns-clause-lowest
 unfolding waiting
-returns-then-is_waiting c =
-    let test : c.is_waiting.result ≡ waiting c.args.s c.args.offers.now c.loop-j.j = c.is_waiting.ensures in
-    search_found _ 16 c.loop-j.j c.loop-j-test.true c.loop-j.invariant (sym test ∙ c.if-is_waiting.true)
-
-pub loop-j-preserved : goal.loop-j-preserved
-unfolding waiting
-loop-j-preserved c =
-    let test : c.is_waiting.result ≡ waiting c.args.s c.args.offers.now c.loop-j.j = c.is_waiting.ensures in
-    search_on _ 16 c.loop-j.j c.loop-j-test.true c.loop-j.invariant (sym test ∙ c.if-is_waiting.false)
-
-pub returns : goal.returns
-returns c =
-    let l = c.loop-j in
-    search_out _ 16 l.j (omega arith) l.invariant
+returns-clause-lowest c =
+    let f = waiting c.args.s c.args.offers.now in
+    lowest_told f 16 c.find.result
+    (first_from_Range _ _ _ c.find.result (λ k. f k ≡ true) (λ k. f k ≡ false) c.find.ensures.ran
+    (λ x q k. search (rules, tests)) (λ x q k. search (rules, tests)))

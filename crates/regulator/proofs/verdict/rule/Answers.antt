@@ -15,28 +15,23 @@ pub loop-j-init : goal.loop-j-init
 loop-j-init c =
     let told : c.args.blocked ≡ blocked_in c.args.s c.args.offers.now = search rules in
     let long : length c.args.verdicts.now ≡ 17 = search rules in
-    let best : (let a = c.args in c.rule_best.result ≡ ruling_of a.s a.offers.now 0) = c.rule_best.ensures ∙ best_ruled c.args.s c.args.offers.now c.args.blocked told in
+    let best : (let a = c.args in c.number.result ≡ ruling_of a.s a.offers.now 0) = c.number.ensures ∙ c.rule_best.ensures ∙ best_ruled c.args.s c.args.offers.now c.args.blocked told in
     let v = c.args.verdicts.now in
     let f = ruling_of c.args.s c.args.offers.now in (
-      search rules,
       told,
-      length-set v 0 c.rule_best.result ∙ long,
-      filled_more f v 0 c.rule_best.result (omega (arith, long)) (filled_none f v) best,
+      length-set v 0 c.number.result ∙ long,
+      filled_more f v 0 c.number.result (omega (arith, long)) (filled_none f v) best,
     )
 
 pub loop-j-preserved : goal.loop-j-preserved
 loop-j-preserved c =
-    let domain : (let a = c.args in
-    c.rule_domain.result ≡ ruling_of a.s a.offers.now (c.loop-j.j + 1)) =
-    let a = c.args in
-    c.rule_domain.ensures ∙ domain_ruled a.s a.offers.now a.blocked c.loop-j.invariant.1 c.loop-j.j in
     let a = c.args in
     let v = c.loop-j.verdicts in
-    let j = c.loop-j.j in (
-      omega arith,
-      c.loop-j.invariant.1,
-      length-set v (j + 1) c.rule_domain.result ∙ c.loop-j.invariant.2,
-      filled_more (ruling_of a.s a.offers.now) v (j + 1) c.rule_domain.result (omega arith) c.loop-j.invariant.3 domain,
+    let j = c.loop-j.j in
+    let domain : c.number-in-loop-j.result ≡ ruling_of a.s a.offers.now (j + 1) = c.number-in-loop-j.ensures ∙ c.rule_domain.ensures ∙ domain_ruled a.s a.offers.now a.blocked c.loop-j.invariant.0 j in (
+      c.loop-j.invariant.0,
+      length-set v (j + 1) c.number-in-loop-j.result ∙ c.loop-j.invariant.1,
+      filled_more (ruling_of a.s a.offers.now) v (j + 1) c.number-in-loop-j.result (omega arith) c.loop-j.invariant.2 domain,
     )
 
 pub returns : goal.returns
@@ -44,4 +39,4 @@ returns c =
     let a = c.args in
     let f = ruling_of a.s a.offers.now in
     let all : c.loop-j.j ≡ 16 = omega arith in
-    filled_all f c.loop-j.verdicts 17 c.loop-j.invariant.2 (subst (λ (j : ℕ). take (j + 1) c.loop-j.verdicts ≡ values_below f (j + 1)) all c.loop-j.invariant.3)
+    filled_all f c.loop-j.verdicts 17 c.loop-j.invariant.1 (subst (λ (j : ℕ). take (j + 1) c.loop-j.verdicts ≡ values_below f (j + 1)) all c.loop-j.invariant.2)

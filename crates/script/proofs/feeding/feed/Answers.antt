@@ -15,22 +15,22 @@ loop-r-init c =
     let sound : Sound c.args.run = search rules in
     let within : c.args.run.used ≤ length c.args.part.now = search rules in
     let a = c.args in
-    (search rules, fed_none a.part.now a.room a.run a.out.now sound within)
+    fed_none a.part.now a.room a.run a.out.now sound within
 
-pub returns-then-r-ne0 : goal.returns-then-r-ne0
-returns-then-r-ne0 c = record { fed = c.loop-r.invariant.1; lineless = λ e. absurd (c.if-r-ne0.true e) }
+pub returns : goal.returns
+returns c = record { fed = c.loop-r.invariant; lineless = λ e. absurd (c.loop-r-test.false e) }
 
 pub plain_lines-r-requires-clause-sound : goal.plain_lines-r-requires-clause-sound
 plain_lines-r-requires-clause-sound c =
-    let fed = c.loop-r.invariant.1 in
+    let fed = c.loop-r.invariant in
     fed.sound
 
 pub plain_lines-r-requires-clause-refused_value : goal.plain_lines-r-requires-clause-refused_value
-plain_lines-r-requires-clause-refused_value c = c.if-r-ne0.false
+plain_lines-r-requires-clause-refused_value c = c.loop-r-test.true
 
 pub plain_lines-r-requires-clause-used_in_bounds : goal.plain_lines-r-requires-clause-used_in_bounds
 plain_lines-r-requires-clause-used_in_bounds c =
-    let fed = c.loop-r.invariant.1 in
+    let fed = c.loop-r.invariant in
     fed.within
 
 pub returns-then-lacks_room : goal.returns-then-lacks_room
@@ -39,7 +39,7 @@ returns-then-lacks_room c =
     Fed a.part.now a.room a.run a.out.now c.plain_lines-r.result c.loop-r.out) =
     let a = c.args in
     fed_then a.part.now a.room a.run a.out.now c.loop-r.r c.loop-r.out c.plain_lines-r.result c.loop-r.out
-    c.loop-r.invariant.1 (c.plain_lines-r.ensures.by_index a.room c.loop-r.out) in
+    c.loop-r.invariant (c.plain_lines-r.ensures.by_index a.room c.loop-r.out) in
     record {
       fed = plain;
       lineless = λ e f. absurd (false≢true (sym f ∙ sym c.lacks_room.ensures ∙ c.if-lacks_room.true));
@@ -51,7 +51,7 @@ line_end-end-requires c =
     Fed a.part.now a.room a.run a.out.now c.plain_lines-r.result c.loop-r.out) =
     let a = c.args in
     fed_then a.part.now a.room a.run a.out.now c.loop-r.r c.loop-r.out c.plain_lines-r.result c.loop-r.out
-    c.loop-r.invariant.1 (c.plain_lines-r.ensures.by_index a.room c.loop-r.out) in
+    c.loop-r.invariant (c.plain_lines-r.ensures.by_index a.room c.loop-r.out) in
     (plain).within
 
 pub is_open_end-requires : goal.is_open_end-requires
@@ -63,7 +63,7 @@ returns-then-is_open_end c =
     Fed a.part.now a.room a.run a.out.now c.plain_lines-r.result c.loop-r.out) =
     let a = c.args in
     fed_then a.part.now a.room a.run a.out.now c.loop-r.r c.loop-r.out c.plain_lines-r.result c.loop-r.out
-    c.loop-r.invariant.1 (c.plain_lines-r.ensures.by_index a.room c.loop-r.out) in
+    c.loop-r.invariant (c.plain_lines-r.ensures.by_index a.room c.loop-r.out) in
     let part = c.args.part.now in
     record {
       fed = plain;
@@ -76,7 +76,7 @@ next_line-r-requires-clause-sound c =
     Fed a.part.now a.room a.run a.out.now c.plain_lines-r.result c.loop-r.out) =
     let a = c.args in
     fed_then a.part.now a.room a.run a.out.now c.loop-r.r c.loop-r.out c.plain_lines-r.result c.loop-r.out
-    c.loop-r.invariant.1 (c.plain_lines-r.ensures.by_index a.room c.loop-r.out) in
+    c.loop-r.invariant (c.plain_lines-r.ensures.by_index a.room c.loop-r.out) in
     plain.sound
 
 pub next_line-r-requires-clause-refused_value : goal.next_line-r-requires-clause-refused_value
@@ -99,7 +99,7 @@ pub loop-r-smaller : goal.loop-r-smaller
 loop-r-smaller c =
     let part = c.args.part.now in
     fed_less c.loop-r.r.refused c.next_line-r.result.refused c.loop-r.r.used c.next_line-r.result.used (length part)
-    c.if-r-ne0.false c.loop-r.invariant.1.within (λ e. omega (arith, c.next_line-r.ensures.used_lt_used e, c.plain_lines-r.ensures.refused_value_2.1))
+    c.loop-r-test.true c.loop-r.invariant.within (λ e. omega (arith, c.next_line-r.ensures.used_lt_used e, c.plain_lines-r.ensures.refused_value_2.1))
     c.next_line-r.ensures.fed.within
 
 pub loop-r-preserved : goal.loop-r-preserved
@@ -108,9 +108,7 @@ loop-r-preserved c =
     Fed a.part.now a.room a.run a.out.now c.plain_lines-r.result c.loop-r.out) =
     let a = c.args in
     fed_then a.part.now a.room a.run a.out.now c.loop-r.r c.loop-r.out c.plain_lines-r.result c.loop-r.out
-    c.loop-r.invariant.1 (c.plain_lines-r.ensures.by_index a.room c.loop-r.out) in
-    let a = c.args in (
-      search rules,
-      fed_then a.part.now a.room a.run a.out.now c.plain_lines-r.result c.loop-r.out c.next_line-r.result c.next_line-r.new.out
-          plain c.next_line-r.ensures.fed,
-    )
+    c.loop-r.invariant (c.plain_lines-r.ensures.by_index a.room c.loop-r.out) in
+    let a = c.args in
+    fed_then a.part.now a.room a.run a.out.now c.plain_lines-r.result c.loop-r.out c.next_line-r.result c.next_line-r.new.out
+    plain c.next_line-r.ensures.fed

@@ -10,7 +10,8 @@ use borrow.Author.Tests.{le-ltb}
 use Rattle.script.specs.Feeding.{unended, Feeds}
 use Rattle.script.specs.declared.feeding.Run.{Run}
 use Rattle.script.proofs.Laws.Putting.{put_none}
-use Rattle.script.proofs.Laws.Feeding.{rest_over, ends_open, ends_refused, fed_ends}
+use Rattle.script.proofs.Laws.Feeding.{rest_over, ends_open, ends_refused, fed_ends, shown_back}
+use borrow.Author.Rules.{rules}
 use Rattle.script.proofs.feeding.finish.Goals as goal
 
 -- A run that was fed a part, asked for no room and is not ended by a refusal left no whole line of the part.
@@ -26,10 +27,12 @@ returns-then-r-part c =
     let live = c.if-r-ne0.false in
     let part = c.args.part.now in
     let left : 1 ≤ length (drop c.feed-r.result.used part) = omega (arith, length-drop c.feed-r.result.used part, c.if-r-part.true) in
-    fed_ends _ _ _ _ _ _ c.feed-r.ensures.fed _ _ _ (ends_refused _ live _ (no_line c.feed-r.ensures live) left) c.put_line_refused.ensures
+    let told = fed_ends _ _ _ _ _ _ c.feed-r.ensures.fed _ _ _ (ends_refused _ live _ (no_line c.feed-r.ensures live) left) c.put_line_refused.ensures.more in
+    shown_back (search rules) told
 
 pub returns : goal.returns
 returns c =
     let live = c.if-r-ne0.false in
     let none = drop_of_length-le c.args.part.now c.if-r-part.false in
-    fed_ends _ _ _ _ _ _ c.feed-r.ensures.fed _ _ _ (ends_open _ live _ (no_line c.feed-r.ensures live) none) c.put_open.ensures
+    let told = fed_ends _ _ _ _ _ _ c.feed-r.ensures.fed _ _ _ (ends_open _ live _ (no_line c.feed-r.ensures live) none) c.put_open.ensures.more in
+    shown_back (search rules) told

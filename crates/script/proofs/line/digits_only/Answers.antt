@@ -1,30 +1,14 @@
--- `script::line::digits_only` meets its contract: what is left to test decides as the whole does.
+-- `script::line::digits_only` meets its contract.
 -- Assumes nothing.
-use mathlib.Core.Path.{sym, ap, ◌∙◌}
-use mathlib.Core.Bool.{Bool, ◌&&◌}
-use Prim.Native.Nat.{◌+◌}
-use lib.ListN.{drop, drop_of_length-le}
-use Rattle.table.proofs.Members.{each_none, each_from}
-use Rattle.script.specs.Line.{is_digit, digits_only}
+use mathlib.Core.Path.{sym, ◌∙◌}
 use borrow.Author.Rules.{rules}
+use Rattle.std.proofs.lemmas.Iterator.Search.{all_from_yields_List}
+use Rattle.std.proofs.lemmas.Iterator.{YieldsList-from_slice}
+use Rattle.script.specs.Line.{is_digit}
+use Rattle.script.proofs.Laws.Reading.{each_list}
 use Rattle.script.proofs.line.digits_only.Goals as goal
 
-pub returns-else-is_digit : goal.returns-else-is_digit
-returns-else-is_digit c =
-    let l = c.args.part.now in
-    sym (sym c.loop-i.invariant.1 ∙ each_from is_digit l c.loop-i.i c.loop-i-test.true
-    ∙ ap (λ (t : Bool). t && digits_only (drop (c.loop-i.i + 1) l)) (sym c.is_digit.ensures ∙ c.if-is_digit.false))
-
-pub loop-i-preserved : goal.loop-i-preserved
-loop-i-preserved c =
-    let l = c.args.part.now in (
-      search rules,
-      sym (ap (λ (t : Bool). t && digits_only (drop (c.loop-i.i + 1) l)) (sym c.is_digit.ensures ∙ c.if-is_digit.true))
-          ∙ sym (each_from is_digit l c.loop-i.i c.loop-i-test.true)
-          ∙ c.loop-i.invariant.1,
-    )
-
 pub returns : goal.returns
+unfolding is_digit
 returns c =
-    let l = c.args.part.now in
-    sym (sym c.loop-i.invariant.1 ∙ ap digits_only (drop_of_length-le l c.loop-i-test.false) ∙ each_none is_digit)
+    all_from_yields_List is_digit _ _ c.all.result c.all.ensures.ran (YieldsList-from_slice c.args.part.now cc) (λ x b q k. search rules) ∙ sym (each_list is_digit c.args.part.now)

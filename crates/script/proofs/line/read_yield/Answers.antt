@@ -1,15 +1,11 @@
--- `script::line::read_yield` meets its contract: two numbers, or neither.
+-- `script::line::read_yield` meets its contract.
 -- Assumes nothing.
-use mathlib.Core.Path.{sym}
-use native.Mathlib.Omega.{arith}
+use mathlib.Core.Path.{sym, ◌∙◌}
 use Rattle.script.proofs.Laws.Reading.{yield_read, yield_unread}
 use Rattle.script.proofs.line.read_yield.Goals as goal
 
-pub read_numbers-n-requires : goal.read_numbers-n-requires
-read_numbers-n-requires c = (omega arith, omega arith)
-
-pub returns-then-n : goal.returns-then-n
-returns-then-n c = λ offers. sym (yield_read _ _ c.read_numbers-n.ensures c.if-n.true)
+pub returns-in_default : goal.returns-in_default
+returns-in_default c = λ _. yield_unread c.args.rest.now (sym c.read_numbers.ensures ∙ c.in_default.is)
 
 pub returns : goal.returns
-returns c = λ offers. sym (yield_unread _ _ c.read_numbers-n.ensures c.if-n.false)
+returns c = λ _. yield_read c.args.rest.now c.in-Some.n (sym c.read_numbers.ensures ∙ c.in-Some.is)

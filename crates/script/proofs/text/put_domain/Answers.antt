@@ -1,15 +1,14 @@
 -- `script::text::put_domain` meets its contract.
 -- Assumes nothing.
-use mathlib.Core.Path.{◌∙◌}
 use Rattle.script.specs.Text.{domain_text}
-use Rattle.script.proofs.Laws.Putting.{put_next}
+use Rattle.script.proofs.Laws.Putting.{puts_then, puts_field}
 use Rattle.script.proofs.text.put_domain.Goals as goal
 
 pub returns : goal.returns
 unfolding domain_text
 returns c =
-    c.put_field.ensures
-    ∙ put_next _ _ _ _ c.put_field-d.ensures
-    ∙ put_next _ _ _ _ c.put_field-c.ensures
-    ∙ put_next _ _ _ _ c.put_field-b.ensures
-    ∙ put_next _ _ _ _ c.put_field-a.ensures
+    puts_then c.put_field.ensures
+    (puts_then (puts_field c.from.ensures c.put_field-2.ensures)
+    (puts_then (puts_field c.from-2.ensures c.put_field-3.ensures)
+    (puts_then (puts_field c.from-3.ensures c.put_field-4.ensures)
+    (puts_field c.from-4.ensures c.put_field-5.ensures))))

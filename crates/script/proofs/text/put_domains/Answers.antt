@@ -1,31 +1,23 @@
 -- `script::text::put_domains` meets its contract: the domains so far are put.
 -- Assumes nothing.
-use mathlib.Core.Path.{◌≡◌, sym, ap, ◌∙◌}
-use Prim.Native.Nat.{ℕ}
-use native.Mathlib.Omega.{arith}
+use mathlib.Core.Path.{sym, subst}
+use Prim.Native.Nat.{◌+◌}
 use Rattle.script.specs.Text.{domains_text}
-use Rattle.script.specs.Output.{output, put}
-use Rattle.script.proofs.Laws.Putting.{put_none, put_next, domains_more, domains_none}
-use borrow.Author.Rules.{rules}
+use Rattle.script.specs.Output.{Puts}
+use Rattle.script.specs.declared.output.Text.{Text}
+use Rattle.script.proofs.Laws.Putting.{puts_none, puts_as, domain_put, domain_left, domains_none}
 use Rattle.script.proofs.text.put_domains.Goals as goal
+use Rattle.script.proofs.text.put_domains.Goals.{then-p-j, else-p-j}
 
 pub loop-j-init : goal.loop-j-init
-loop-j-init c =
-    let a = c.args in
-    let o = output a.out.now a.at in
-    (search rules, search rules, sym (ap (put o) (domains_none a.p a.c) ∙ put_none o))
+loop-j-init c = puts_as (sym (domains_none c.args.p c.args.c)) (puts_none _)
 
 pub loop-j-preserved : goal.loop-j-preserved
 loop-j-preserved c =
     let a = c.args in
-    let o = output a.out.now a.at in (
-      search rules,
-      search rules,
-      c.put_if_planned-n.ensures ∙ put_next _ _ _ _ c.loop-j.invariant.2 ∙ ap (put o) (sym (domains_more a.p a.c c.loop-j.j)),
-    )
-
-pub returns : goal.returns
-returns c =
-    let a = c.args in
-    let e : c.loop-j.j ≡ 16 = omega (arith, c.loop-j-test.false, c.loop-j.invariant.0) in
-    c.loop-j.invariant.2 ∙ ap (λ (k : ℕ). put (output a.out.now a.at) (domains_text a.p a.c k)) e
+    let j = c.loop-j.j in
+    let so_far = λ (t : Text). Puts a.text.now t (domains_text a.p a.c (j + 1)) in
+    elim c.if-p-j.branch [
+      | then-p-j w ↦ subst so_far (sym w.text-is) (domain_put a.p a.c j w.if-p-j.true c.loop-j.invariant w.put_domain.ensures)
+      | else-p-j w ↦ subst so_far (sym w.text-is) (domain_left a.p a.c j w.if-p-j.false c.loop-j.invariant)
+    ]

@@ -5,4 +5,5 @@ use Rattle.script.proofs.text.put_header.Goals as goal
 
 pub returns : goal.returns
 unfolding header
-returns c = c.put_bytes.ensures
+returns c =
+    c.put_bytes.ensures

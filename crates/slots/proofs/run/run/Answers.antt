@@ -1,63 +1,38 @@
 -- `slots::run::run` meets its contract.
 -- Assumes nothing.
-use mathlib.Core.Path.{refl}
-use Prim.Native.Nat.{◌+◌, ◌≤◌}
-use native.Mathlib.Omega.{arith}
-use lib.ListN.{length}
+use mathlib.Core.Path.{◌≡◌, sym, ap}
 use Rattle.regulator.specs.declared.state.State.{State}
 use Rattle.kept.specs.Numbers.{Of, rest_of}
-use Rattle.slots.proofs.Laws.Offering.{given, apart}
+use Rattle.kept.specs.declared.deciding.Limits.{Limits}
 use Rattle.slots.proofs.Laws.Running.{running_none, running_ready, running_more}
 use Rattle.slots.proofs.run.run.Goals as goal
 
 -- A state has the period and the caps of its own plan.
-of_own : (s : State) → Of (rest_of s) s.plan.period s.plan.reclaimcap s.plan.writebackcap
-of_own s = record { period_is = refl; reclaimcap_is = refl; writebackcap_is = refl }
-
-pub loop-at-init : goal.loop-at-init
-loop-at-init c =
-    let p = c.requires in
-    running_none _ _ _ _ _ _ _ _ p.from_in_bounds p.kept p.sound.1
-
-pub overflow_sub-part : goal.overflow_sub-part
-overflow_sub-part c = c.loop-at.invariant.within
-
-pub returns-then-part-at-lt-LINE : goal.returns-then-part-at-lt-LINE
-returns-then-part-at-lt-LINE c = c.loop-at.invariant.carries _ (of_own c.args.s) c.requires.allowed c.requires.sound.0
-
-pub is_head-requires : goal.is_head-requires
-is_head-requires c = omega (arith, c.loop-at.invariant.within, c.if-part-at-lt-LINE.false)
-
-pub returns-else-is_head : goal.returns-else-is_head
-returns-else-is_head c = c.loop-at.invariant.carries _ (of_own c.args.s) c.requires.allowed c.requires.sound.0
-
-pub offers-requires : goal.offers-requires
-offers-requires c = omega (arith, c.loop-at.invariant.within, c.if-part-at-lt-LINE.false)
-
-pub returns-else-is_plain : goal.returns-else-is_plain
-returns-else-is_plain c = c.loop-at.invariant.carries _ (of_own c.args.s) c.requires.allowed c.requires.sound.0
-
-pub slot-f-requires : goal.slot-f-requires
-slot-f-requires c =
-    let v = c.loop-at.invariant in
-    let o = c.offers.ensures _ _ c.in-Masks.is in
+of_own : (s : State) (l : Limits) → l ≡ record { period = s.plan.period; reclaimcap = s.plan.reclaimcap; writebackcap = s.plan.writebackcap }
+    → Of (rest_of s) l.period l.reclaimcap l.writebackcap
+of_own s l e =
     record {
-      access_bound = (o.small_access, o.small_writeback, v.time);
-      by_index = apart _ _ _ (given _ _ _ _ o);
-      kept_2 = v.kept;
-      ready = running_ready _ _ _ _ _ _ _ _ _ _ _ v _ (of_own c.args.s) c.requires.allowed c.requires.sound.0;
+      period_is = ap (λ (k : Limits). k.period) (sym e);
+      reclaimcap_is = ap (λ (k : Limits). k.reclaimcap) (sym e);
+      writebackcap_is = ap (λ (k : Limits). k.writebackcap) (sym e);
     }
 
-pub loop-at-smaller : goal.loop-at-smaller
-loop-at-smaller c = omega (arith, c.loop-at.invariant.within, c.if-part-at-lt-LINE.false)
+pub loop-offers-init : goal.loop-offers-init
+loop-offers-init c =
+    let p = c.requires in
+    rw c.of-limits.ensures (running_none _ _ _ _ _ _ _ _ p.from_in_bounds p.kept p.sound.1)
 
-pub loop-at-preserved : goal.loop-at-preserved
-loop-at-preserved c =
-    let v = c.loop-at.invariant in
-    let room : c.loop-at.at + 20 ≤ length c.args.part.now = omega (arith, v.within, c.if-part-at-lt-LINE.false) in
-    running_more _ _ _ _ _ _ _ _ _ _ _ v _ (of_own c.args.s) c.requires.allowed c.requires.sound.0 _ _ room
-    (c.is_head.ensures c.if-is_head.true) (c.offers.ensures _ _ c.in-Masks.is) (c.is_plain.ensures c.if-is_plain.true) _ _
-    c.slot-f.ensures.kept c.slot-f.ensures.decided
+pub slot-numbers-requires-clause-ready : goal.slot-numbers-requires-clause-ready
+slot-numbers-requires-clause-ready c =
+    running_ready _ _ _ _ _ _ _ _ _ _ _ c.loop-offers.invariant _
+    (of_own c.args.s _ c.of-limits.ensures) c.allowed_of-allowed.ensures c.requires.sound.0
 
-pub returns-in-Other : goal.returns-in-Other
-returns-in-Other c = c.loop-at.invariant.carries _ (of_own c.args.s) c.requires.allowed c.requires.sound.0
+pub loop-offers-preserved : goal.loop-offers-preserved
+loop-offers-preserved c =
+    let line = c.in-Some.ensures in
+    running_more _ _ _ _ _ _ _ _ _ _ _ c.loop-offers.invariant _
+    (of_own c.args.s _ c.of-limits.ensures) c.allowed_of-allowed.ensures c.requires.sound.0
+    _ _ line.within line.head line.offered line.plain _ _ c.slot-numbers.ensures.kept c.slot-numbers.ensures.decided
+
+pub returns : goal.returns
+returns c = c.loop-offers.invariant.carries _ (of_own c.args.s _ c.of-limits.ensures) c.allowed_of-allowed.ensures c.requires.sound.0

@@ -1,15 +1,13 @@
--- `slots::run::run` meets its contract.
+-- What holds between two lines.
 -- Assumes nothing.
 use Prim.Native.Nat.{◌-◌}
 use lib.ListN.{length}
-use Rattle.kept.specs.Tables.{tables}
 use Rattle.slots.proofs.Laws.Running.{Running}
 use Rattle.slots.proofs.run.run.Given as goal
 
-abbrev pub invariant-loop-at : goal.invariant-loop-at
-invariant-loop-at l =
-    Running l.part l.period l.allowed l.reclaimcap l.writebackcap l.initial.f (tables l.initial.claim l.initial.reserved l.initial.reclaimed l.initial.writebacks l.initial.writebackclaim) l.from
-    l.f (tables l.claim l.reserved l.reclaimed l.writebacks l.writebackclaim) l.at
+abbrev pub invariant-loop-offers : goal.invariant-loop-offers
+invariant-loop-offers l =
+    Running l.part l.limits.period l.allowed l.limits.reclaimcap l.limits.writebackcap l.initial.numbers l.initial.tables l.from l.numbers l.tables l.at
 
-abbrev pub decreases-loop-at : goal.decreases-loop-at
-decreases-loop-at l = length l.part - l.at
+abbrev pub decreases-loop-offers : goal.decreases-loop-offers
+decreases-loop-offers l = length l.part - l.at

@@ -1,9 +1,0 @@
--- `model_calls::calls::any_bad` asks seventeen numbers and ends.
-use Rattle.std.proofs.Common.{◌-◌, ◌≤◌}
-use Rattle.model_calls.proofs.calls.any_bad.Given as goal
-
-abbrev pub invariant-loop-n : goal.invariant-loop-n
-invariant-loop-n l = l.n ≤ 17
-
-abbrev pub decreases-loop-n : goal.decreases-loop-n
-decreases-loop-n l = 17 - l.n

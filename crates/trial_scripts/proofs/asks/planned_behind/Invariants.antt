@@ -1,9 +1,0 @@
--- `trial_scripts::asks::planned_behind` asks sixteen domains and ends.
-use Rattle.std.proofs.Common.{◌-◌, ◌≤◌}
-use Rattle.trial_scripts.proofs.asks.planned_behind.Given as goal
-
-abbrev pub invariant-loop-k : goal.invariant-loop-k
-invariant-loop-k l = l.k ≤ 16
-
-abbrev pub decreases-loop-k : goal.decreases-loop-k
-decreases-loop-k l = 16 - l.k
