@@ -75,9 +75,11 @@ pub fn granted(s: &[u64], offers: &[u8]) -> Option<usize>
 {
     let shut = blocked(s, offers);
     let first = turn(s);
-    (first..first + 17)
-        .map(|k| k % 17)
-        .find(|&n| ruling(s, offers, n, shut) == 2)
+    (0..17)
+        .filter(|&n| ruling(s, offers, n, shut) == 2)
+        .map(|n: usize| n.wrapping_add(17 - first) % 17)
+        .min()
+        .map(|distance| first.wrapping_add(distance) % 17)
 }
 
 // How many numbers, from the turn on, were asked before the one granted: all seventeen where nobody is.

@@ -51,14 +51,18 @@ struct Six {
 }
 
 impl Six {
-    fn of(domains: [u32; 96], domain: u32) -> Six {
+    // Those of the domain at index k.
+    fn of(domains: &[u32; 96], k: usize) -> Six
+        requires { k < 16 }
+    {
+        let at = 6 * k;
         Six {
-            present: word(domains, domain, 0),
-            q: word(domains, domain, 1),
-            r: word(domains, domain, 2),
-            w: word(domains, domain, 3),
-            v: word(domains, domain, 4),
-            mark: word(domains, domain, 5),
+            present: domains[at],
+            q: domains[at + 1],
+            r: domains[at + 2],
+            w: domains[at + 3],
+            v: domains[at + 4],
+            mark: domains[at + 5],
         }
     }
 
@@ -90,16 +94,21 @@ pub fn count(period: u32, domains: [u32; 96]) -> Totals
 {
     let mut present = 0;
     let mut reservations = 0;
-    for n in 1..17 {
-        let d = Six::of(domains, n);
+    let mut lowest_bad = None;
+    let mut lowest_above = None;
+    for k in 0..16 {
+        let d = Six::of(&domains, k);
+        let number = k as u32 + 1;
         present += u32::from(d.present != 0);
         reservations += u64::from(d.q) + u64::from(d.v);
+        lowest_bad = lowest_bad.or(d.is_bad(period).then_some(number));
+        lowest_above = lowest_above.or(d.is_above().then_some(number));
     }
     Totals {
         present,
         reservations,
-        lowest_bad: (1..17).find(|&n| Six::of(domains, n).is_bad(period)),
-        lowest_above: (1..17).find(|&n| Six::of(domains, n).is_above()),
+        lowest_bad,
+        lowest_above,
     }
 }
 
@@ -107,7 +116,14 @@ pub fn count(period: u32, domains: [u32; 96]) -> Totals
 pub fn ranked(domains: [u32; 96], rank: u32) -> Option<u32>
     ensures { IfSome result (λ n. n ≤ 16) }
 {
-    (1..17)
-        .filter(|&n| word(domains, n, 0) != 0)
-        .nth(rank.saturating_sub(1) as usize)
+    let mut left = rank;
+    for n in 1..17 {
+        if word(domains, n, 0) != 0 {
+            if left <= 1 {
+                return Some(n);
+            }
+            left -= 1;
+        }
+    }
+    None
 }

@@ -186,10 +186,12 @@ fn begin(stage: Stage, state: State, slot: u64, number: u64) -> Search
 pub fn start(plan: &[u8], ask: &[u8]) -> Search
     ensures { Started plan.now ask.now result }
 {
+    let opened = script::opened(plan);
     let Some(asked) = ask::read_ask(ask) else {
-        return begin(Stage::AskRefused(63), regulator::no_state(), 0, 0);
+        let state = opened.unwrap_or(regulator::no_state());
+        return begin(Stage::AskRefused(63), state, 0, 0);
     };
-    match script::opened(plan) {
+    match opened {
         Ok(state) => begin(first_stage(asked.slot), state, asked.slot, asked.number),
         Err(e) => {
             let stage = Stage::PlanRefused {

@@ -14,6 +14,7 @@ use super::{close, forecast, grant, refusals, state, turn, verdict};
 use plan::{Plan, Refused};
 
 // Opens a plan.
+#[tactic(auto, using(crate::proofs::Laws::Telling::plan_refused), unfolding(crate::specs::Calls::open_plan))]
 pub fn open(p: Plan) -> Result<State, Refused>
     ensures { opening_by result ≡ open_plan p }
 {

@@ -7,12 +7,14 @@ ghost use Rattle.regulator.specs.Turn.{rulings};
 
 use super::state::State;
 
-// What a number is told before one of those that pass is granted.
+// What a number is told before one of those that pass is granted. They stand in the order of their numbers, so that a number is a
+// place and costs no table; 1 is the granted number's own, which `mark` puts and no ruling tells.
 #[derive(Clone, Copy, Debug, PartialEq, Eq)]
 enum Ruling {
     NoOffer,
-    AtCap,
+    Granted,
     Passes,
+    AtCap,
     ReclaimedFull,
     NoStock,
     Blocked,
@@ -23,14 +25,7 @@ impl Ruling {
     fn number(self) -> u8
         ensures { result ≡ ruling_number self }
     {
-        match self {
-            Ruling::NoOffer => 0,
-            Ruling::AtCap => 3,
-            Ruling::Passes => 2,
-            Ruling::ReclaimedFull => 4,
-            Ruling::NoStock => 5,
-            Ruling::Blocked => 6,
-        }
+        self as u8
     }
 }
 

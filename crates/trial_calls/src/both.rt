@@ -65,19 +65,23 @@ fn words_of(now: &[u64]) -> [u64; 476] {
     words
 }
 
-// The answer of a call on a state of these words: the state and counts that it answered, or the state that was given where it was
-// refused.
-fn reply_of(now: &[u64], s: State, counts: Option<Counts>, told: Told) -> Reply {
-    let mut words = words_of(now);
-    let mut all = [0u64; 238];
-    forms::put_state(&mut words, s);
-    if let Some(period) = counts {
-        forms::put_counts(&mut all, period);
+impl Reply {
+    // Of a call on a state of these words that is still to be made. It is lent to the call: it is large, and is not copied.
+    fn before(now: &[u64]) -> Reply {
+        Reply {
+            told: refusal(0, 0),
+            words: words_of(now),
+            counts: [0; 238],
+        }
     }
-    Reply {
-        told,
-        words,
-        counts: all,
+
+    // The state and counts that a call answered, or the state that was given where it was refused.
+    fn put(&mut self, s: State, counts: Option<Counts>, told: Told) {
+        self.told = told;
+        forms::put_state(&mut self.words, s);
+        if let Some(period) = counts {
+            forms::put_counts(&mut self.counts, period);
+        }
     }
 }
 
@@ -86,7 +90,8 @@ fn library_slot<D: FnOnce(State, &[u8], &mut [u8]) -> Result<Slot, SlotFault>>(
     decide: D,
     now: &[u64],
     c: Call,
-) -> Reply
+    reply: &mut Reply,
+)
     requires { D.IsAlwaysCallable decide }
 {
     let mut verdicts = [c.filled; 18];
@@ -101,8 +106,7 @@ fn library_slot<D: FnOnce(State, &[u8], &mut [u8]) -> Result<Slot, SlotFault>>(
         Ok(a) => {
             let complete = a.counts.is_some();
             let steps = a.steps;
-            reply_of(
-                now,
+            reply.put(
                 a.state,
                 a.counts,
                 Told {
@@ -110,82 +114,81 @@ fn library_slot<D: FnOnce(State, &[u8], &mut [u8]) -> Result<Slot, SlotFault>>(
                     steps,
                     ..told
                 },
-            )
+            );
         }
         Err(e) => {
             let number = u32::from(e.number());
-            reply_of(now, s, None, Told { number, ..told })
+            reply.put(s, None, Told { number, ..told });
         }
     }
 }
 
 // The answer of a call that tells no counts, given such a state.
-fn state_reply(now: &[u64], given: State, answer: Result<State, Told>) -> Reply {
+fn put_state_reply(given: State, answer: Result<State, Told>, reply: &mut Reply) {
     match answer {
-        Ok(s) => reply_of(now, s, None, refusal(0, 0)),
-        Err(told) => reply_of(now, given, None, told),
+        Ok(s) => reply.put(s, None, refusal(0, 0)),
+        Err(told) => reply.put(given, None, told),
     }
 }
 
-fn library_yield(now: &[u64], c: Call) -> Reply {
+fn library_yield(now: &[u64], c: Call, reply: &mut Reply) {
     let s = forms::state_of(now);
     let answer = regulator::yield_claim(s, c.domain, c.k);
-    state_reply(
-        now,
+    put_state_reply(
         s,
         answer.map_err(|e| refusal(u32::from(e.number()), 0)),
-    )
+        reply,
+    );
 }
 
-fn library_handing(now: &[u64], p: Plan) -> Reply {
+fn library_handing(now: &[u64], p: Plan, reply: &mut Reply) {
     let s = forms::state_of(now);
     let answer = regulator::hand_in(s, p);
-    state_reply(
-        now,
+    put_state_reply(
         s,
         answer.map_err(|e| refusal(u32::from(e.number()), u32::from(e.place()))),
-    )
+        reply,
+    );
 }
 
 // No state is given to an opening: where it is refused, there is none.
-fn library_opening(now: &[u64], p: Plan) -> Reply {
+fn library_opening(p: Plan, reply: &mut Reply) {
     let answer = regulator::open(p);
-    state_reply(
-        now,
+    put_state_reply(
         regulator::no_state(),
         answer.map_err(|e| refusal(u32::from(e.fault.number()), u32::from(e.place))),
-    )
+        reply,
+    );
 }
 
-fn library_call(now: &[u64], c: Call) -> Reply {
+fn library_call(now: &[u64], c: Call, reply: &mut Reply) {
     let p = forms::plan_of(now, forms::GIVEN);
     match c.asks {
-        Asks::Slot => library_slot(|s, offers, lent| regulator::slot(s, offers, lent), now, c),
-        Asks::Yield => library_yield(now, c),
-        Asks::HandIn => library_handing(now, p),
-        Asks::Open => library_opening(now, p),
+        Asks::Slot => library_slot(
+            |s, offers, lent| regulator::slot(s, offers, lent),
+            now,
+            c,
+            reply,
+        ),
+        Asks::Yield => library_yield(now, c, reply),
+        Asks::HandIn => library_handing(now, p, reply),
+        Asks::Open => library_opening(p, reply),
     }
 }
 
 // A slot completes its period where one more is closed.
-fn model_slot(now: &[u64], c: Call) -> Reply {
+fn model_slot(now: &[u64], c: Call, reply: &mut Reply) {
     let mut verdicts = [c.filled; 18];
-    let mut words = words_of(now);
-    let mut counts = [0u64; 238];
     let offers = &c.offers[..c.offered.min(18)];
     let lent = &mut verdicts[..c.lent.min(18)];
-    let d = model_calls::slot(&mut words, offers, lent, &mut counts);
-    Reply {
-        told: Told {
-            number: d.number,
-            place: 0,
-            verdicts,
-            complete: forms::word(&words, 2) != forms::word(now, 2),
-            steps: d.steps,
-        },
-        words,
-        counts,
-    }
+    let d = model_calls::slot(&mut reply.words, offers, lent, &mut reply.counts);
+    reply.told = Told {
+        number: d.number,
+        place: 0,
+        verdicts,
+        complete: forms::word(&reply.words, 2) != forms::word(now, 2),
+        steps: d.steps,
+    };
 }
 
 // A call of the model other than a slot.
@@ -205,17 +208,12 @@ fn model_told(words: &mut [u64], c: Call, p: Plan) -> Told {
     }
 }
 
-fn model_call(now: &[u64], c: Call) -> Reply {
+fn model_call(now: &[u64], c: Call, reply: &mut Reply) {
     if c.asks == Asks::Slot {
-        return model_slot(now, c);
+        return model_slot(now, c, reply);
     }
-    let mut words = words_of(now);
-    let told = model_told(&mut words, c, forms::plan_of(now, forms::GIVEN));
-    Reply {
-        told,
-        words,
-        counts: [0; 238],
-    }
+    let told = model_told(&mut reply.words, c, forms::plan_of(now, forms::GIVEN));
+    reply.told = told;
 }
 
 // The second engine decides slots, and no other call is put to it.
@@ -228,13 +226,21 @@ fn second_part(told: Told) -> Part {
 }
 
 pub fn answered(now: &mut [u64; 714], counts: &mut [u64; 238], c: Call) -> Outcome {
-    let due = model_call(now, c);
-    let first = library_call(now, c);
+    let mut due = Reply::before(now);
+    model_call(now, c, &mut due);
+    let mut first = Reply::before(now);
+    library_call(now, c, &mut first);
     let mut same = first == due;
     let mut second = Part::NotAsked;
     let mut asked = None;
     if c.asks == Asks::Slot {
-        let other = library_slot(|s, offers, lent| engine::slot(s, offers, lent), now, c);
+        let mut other = Reply::before(now);
+        library_slot(
+            |s, offers, lent| engine::slot(s, offers, lent),
+            now,
+            c,
+            &mut other,
+        );
         let cause = asked::answered(now, c);
         same = same && other == due && cause.same;
         second = second_part(other.told);

@@ -4,7 +4,7 @@ use model_plans::{Told, words};
 use plan::Plan;
 use trial_kit::{counts, values};
 
-// How a writeback reservation stands, in the order of the printed row; and behind it the refusals that `telling` is of.
+// How a writeback reservation stands, in the order of the printed row.
 #[derive(Clone, Copy)]
 enum Stood {
     Zero,
@@ -13,10 +13,17 @@ enum Stood {
     OneAbove,
     Above,
     AbovePeriod,
+}
+
+// The refusals that `telling` is of. They stand behind the ways of a reservation in the row, of which there are six.
+#[derive(Clone, Copy)]
+enum Tells {
     Nine,
     Eleven,
     Ten,
 }
+
+const STANDINGS: usize = 6;
 
 fn standing(v: u32, w: u32, period: u32) -> Stood {
     match v {
@@ -29,16 +36,12 @@ fn standing(v: u32, w: u32, period: u32) -> Stood {
     }
 }
 
-fn count(at: Stood, by: u32, seen: &mut [u32]) {
-    counts::raise(seen, seen::WRITES + at as usize, by);
-}
-
 // Counts those of the planned domains.
 fn count_domains(domains: [u32; 96], period: u32, seen: &mut [u32]) {
     for n in 1..17 {
         let v = words::word(domains, n, 4);
         let at = standing(v, words::word(domains, n, 3), period);
-        count(at, words::word(domains, n, 0), seen);
+        counts::raise(seen, seen::WRITES + at as usize, words::word(domains, n, 0));
     }
 }
 
@@ -56,13 +59,13 @@ fn first_above(domains: [u32; 96]) -> Option<u32> {
 }
 
 // Whether a refusal is one that another reading of the rules would not tell, and which.
-fn telling(t: Told, domains: [u32; 96], period: u32) -> Option<Stood> {
+fn telling(t: Told, domains: [u32; 96], period: u32) -> Option<Tells> {
     match t.number {
         9 => first_above(domains)
             .is_some_and(|n| n < t.place)
-            .then_some(Stood::Nine),
-        11 => (words::word(domains, t.place, 4) <= period).then_some(Stood::Eleven),
-        10 => (reserved(domains) <= u64::from(period)).then_some(Stood::Ten),
+            .then_some(Tells::Nine),
+        11 => (words::word(domains, t.place, 4) <= period).then_some(Tells::Eleven),
+        10 => (reserved(domains) <= u64::from(period)).then_some(Tells::Ten),
         _ => None,
     }
 }
@@ -73,6 +76,6 @@ pub fn count_value(p: Plan, seen: &mut [u32]) {
     let period = u32::from(p.period);
     count_domains(domains, period, seen);
     if let Some(at) = telling(model_plans::check(period, domains), domains, period) {
-        count(at, 1, seen);
+        counts::raise(seen, seen::WRITES + STANDINGS + at as usize, 1);
     }
 }

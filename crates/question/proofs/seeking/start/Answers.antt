@@ -21,7 +21,7 @@ returns-in-Ok c =
     let a = c.args in
     let q = c.in-Some.asked in
     let asked = sym c.read_ask.ensures ∙ ap asked_by c.in-Some.is in
-    let o = opened_as a.plan.now c.in-Ok.is c.opened.ensures in
+    let o = opened_as a.plan.now c.in-Ok.is c.opened-opened.ensures in
     subst (Started a.plan.now a.ask.now)
     (sym (c.begin-in-Ok.ensures ∙ ap (λ (g : Stage). begun g c.in-Ok.state q.slot q.number) c.first_stage.ensures))
     (started_asked a.plan.now a.ask.now _ q.slot q.number asked o.0 o.1)
@@ -31,7 +31,7 @@ returns-in-Err c =
     let a = c.args in
     let q = c.in-Some.asked in
     let asked = sym c.read_ask.ensures ∙ ap asked_by c.in-Some.is in
-    let o = opened_as a.plan.now c.in-Err.is c.opened.ensures in
+    let o = opened_as a.plan.now c.in-Err.is c.opened-opened.ensures in
     let n = c.number.ensures in
     subst (Started a.plan.now a.ask.now) (sym c.begin-in-Err.ensures)
     (started_refused a.plan.now a.ask.now _ q.slot q.number asked _ _ (λ z. hand_numbered (HandFault.Plan c.in-Err.e) (sym n ∙ z)) (o.0 ∙ sym n) o.1)
